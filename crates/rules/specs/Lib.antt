@@ -1,0 +1,10 @@
+pub mod Lists
+pub mod Words
+pub mod Routes
+pub mod Cells
+pub mod Delivered
+pub mod Vote
+pub mod Decision
+pub mod Refusals
+pub mod Exchange
+pub mod Answers
