@@ -1,0 +1,53 @@
+-- How many routes and cells there can be for at most 15 nodes and 4 numbers: so few that every sum of the code fits.
+use mathlib.Core.Path.{_≡_}
+use Prim.Native.Nat.{ℕ, suc, _+_, _*_, _-_, _≤_, _<_}
+use native.Mathlib.Omega.{arith}
+use native.Mathlib.Nat.{mul-le-mul}
+use native.Mathlib.Numerals.{add-one}
+use mir.Syntax.{w64}
+use mir.Val.{Fits}
+use Rattle.rules.specs.Cells.{routesOf, cellsBefore}
+use Rattle.rules.proofs.Numbering.{cells-step}
+use Rattle.rules.proofs.Growth.{cells-grow}
+
+-- 15 nodes and 4 rounds have 26,404
+cells-most : (n k : ℕ) → n ≤ 15 → k ≤ 4 → cellsBefore n k ≤ 26404
+unfolding cellsBefore routesOf
+cells-most n k few deep = cells-grow n 15 k 4 few deep
+
+pub cells-few : (n k b : ℕ) → b ≡ cellsBefore n k → n ≤ 15 → k ≤ 4 → b ≤ 26404
+cells-few n k b e few deep = rw e (cells-most n k few deep)
+
+-- the routes of a length are part of the cells
+pub routes-most : (n k : ℕ) → n ≤ 15 → k < 4 → routesOf n (k + 1) ≤ 26404
+routes-most n k few deep = rw add-one (omega (arith, cells-step n k, cells-most n (suc k) few deep))
+
+-- ---- the routes of 2, 3 and 4 numbers, multiplied out, and their sums, as the code has them
+
+module _ (n : ℕ) (few : n ≤ 15) where
+  two-most : (n - 1) * (n - 2) ≤ 182
+  two-most = mul-le-mul {n₂ = 14} {m₂ = 13} (omega arith) (omega arith)
+
+  three-most : (n - 1) * (n - 2) * (n - 3) ≤ 2184
+  three-most = mul-le-mul {n₂ = 182} {m₂ = 12} two-most (omega arith)
+
+  four-most : (n - 1) * (n - 2) * (n - 3) * (n - 4) ≤ 24024
+  four-most = mul-le-mul {n₂ = 2184} {m₂ = 11} three-most (omega arith)
+
+  pub two-fits : Fits w64 ((n - 1) * (n - 2))
+  two-fits = record { fits = omega (arith, two-most) }
+
+  pub three-fits : Fits w64 ((n - 1) * (n - 2) * (n - 3))
+  three-fits = record { fits = omega (arith, three-most) }
+
+  pub four-fits : Fits w64 ((n - 1) * (n - 2) * (n - 3) * (n - 4))
+  four-fits = record { fits = omega (arith, four-most) }
+
+  pub to-two-fits : Fits w64 (n - 1 + (n - 1) * (n - 2))
+  to-two-fits = record { fits = omega (arith, two-most) }
+
+  pub to-three-fits : Fits w64 (n - 1 + (n - 1) * (n - 2) + (n - 1) * (n - 2) * (n - 3))
+  to-three-fits = record { fits = omega (arith, two-most, three-most) }
+
+  pub to-four-fits : Fits w64 (n - 1 + (n - 1) * (n - 2) + (n - 1) * (n - 2) * (n - 3) + (n - 1) * (n - 2) * (n - 3) * (n - 4))
+  to-four-fits = record { fits = omega (arith, two-most, three-most, four-most) }

@@ -1,0 +1,133 @@
+-- The entries of a list of bytes are its words, read one after another; and what a loop that counts among them has so far.
+use mathlib.Core.Path.{_≡_, refl, sym, ap, _∙_}
+use mathlib.Core.Bool.{Bool, true, false}
+use mathlib.Core.List.{List, [], _∷_, _++_, map}
+use Prim.Native.Nat.{ℕ, zero, suc, _+_, _*_, _-_, _/_, _≤_, _<_}
+use native.Mathlib.Omega.{arith}
+use native.Mathlib.Numerals.{add-one}
+use lib.ListN.{length, drop, length-drop}
+use lib.Seq.{getD-drop}
+use lib.Dec.{eqb, leb}
+use borrow.Author.Tests.{eq-eqb, ne-eqb, le-leb, lt-leb}
+use Rattle.rules.specs.Lists.{bit, count, upTo}
+use Rattle.rules.specs.Words.{wordAt, plain, wordsOf}
+use Rattle.rules.proofs.Counting.{bit-le-one, map-append, count-append}
+use Rattle.rules.proofs.WordRows.{words-count}
+
+abbrev pub entry : List ℕ → ℕ → ℕ
+entry bytes i = plain (wordAt bytes i)
+
+-- the first i entries
+abbrev pub firsts : List ℕ → ℕ → List ℕ
+firsts bytes i = map (entry bytes) (upTo i)
+
+-- all of them are the list's words
+pub all-firsts : (bytes : List ℕ) (i : ℕ) → i ≡ length bytes / 2 → firsts bytes i ≡ wordsOf bytes
+unfolding wordsOf
+all-firsts bytes i e = rw e
+
+-- one entry more
+pub firsts-next : (bytes : List ℕ) (i : ℕ) → firsts bytes (i + 1) ≡ firsts bytes i ++ (entry bytes i ∷ [])
+unfolding upTo
+firsts-next bytes i = rw (add-one, map-append)
+
+pub count-next : (P : ℕ → Bool) (bytes : List ℕ) (i : ℕ) → count P (firsts bytes (i + 1)) ≡ count P (firsts bytes i) + bit (P (entry bytes i))
+unfolding count
+count-next P bytes i = rw (firsts-next, count-append) (omega arith)
+
+pub count-none : (P : ℕ → Bool) (bytes : List ℕ) → count P (firsts bytes 0) ≡ 0
+unfolding count upTo
+count-none P bytes = refl
+
+-- the entries that are left add no more than they are
+count-rest : (P : ℕ → Bool) (bytes : List ℕ) (i d : ℕ) → count P (firsts bytes (i + d)) ≤ count P (firsts bytes i) + d
+count-rest P bytes i zero = let e : i + 0 ≡ i = omega arith in rw e (omega arith)
+count-rest P bytes i (suc d) =
+    let e : i + suc d ≡ i + d + 1 = omega arith in
+    rw (e, count-next) (omega (arith, bit-le-one (P (entry bytes (i + d))), count-rest P bytes i d))
+
+pub entries-rest : (P : ℕ → Bool) (bytes : List ℕ) (i : ℕ) → i ≤ length bytes / 2 → count P (wordsOf bytes) ≤ count P (firsts bytes i) + (length bytes / 2 - i)
+entries-rest P bytes i h =
+    let left = length bytes / 2 - i in
+    rw (all-firsts bytes (i + left) (omega arith)) at (count-rest P bytes i left)
+
+-- the entry in a place after the first i is an entry of the bytes after theirs
+entry-after : (bytes : List ℕ) (i d : ℕ) → entry (drop (2 * i) bytes) d ≡ entry bytes (i + d)
+unfolding wordAt
+entry-after bytes i d =
+    let high : 2 * i + 2 * d ≡ 2 * (i + d) = omega arith in
+    let low : 2 * i + (2 * d + 1) ≡ 2 * (i + d) + 1 = omega arith in
+    rw (getD-drop (2 * i) bytes (2 * d) 0, getD-drop (2 * i) bytes (2 * d + 1) 0, high, low)
+
+count-after : (P : ℕ → Bool) (bytes : List ℕ) (i d : ℕ) → count P (firsts bytes (i + d)) ≡ count P (firsts bytes i) + count P (firsts (drop (2 * i) bytes) d)
+count-after P bytes i zero = let e : i + 0 ≡ i = omega arith in rw e (omega (arith, count-none P (drop (2 * i) bytes)))
+count-after P bytes i (suc d) =
+    let e : i + suc d ≡ i + d + 1 = omega arith in
+    let e′ : suc d ≡ d + 1 = omega arith in
+    rw (e, e′, count-next P bytes (i + d), count-next P (drop (2 * i) bytes) d, entry-after) (omega (arith, count-after P bytes i d))
+
+-- what is counted among the first i entries and among those from there on is counted among all
+pub count-from : (P : ℕ → Bool) (bytes : List ℕ) (i : ℕ) → i ≤ length bytes / 2 → count P (wordsOf bytes) ≡ count P (firsts bytes i) + count P (wordsOf (drop (2 * i) bytes))
+count-from P bytes i h =
+    let left = length bytes / 2 - i in
+    rw (← all-firsts bytes (i + left) (omega arith), ← all-firsts (drop (2 * i) bytes) left (omega (arith, length-drop (2 * i) bytes)))
+    (count-after P bytes i left)
+
+-- an entry that equals a word is counted, another is not
+module _ (bytes : List ℕ) (word i w : ℕ) (read : w ≡ entry bytes i) where
+  pub hit : w ≡ word → count (eqb word) (firsts bytes (i + 1)) ≡ count (eqb word) (firsts bytes i) + 1
+  hit e = rw (← read, eq-eqb word w (sym e)) at (count-next (eqb word) bytes i)
+
+  pub miss : (w ≡ word → ⊥) → count (eqb word) (firsts bytes (i + 1)) ≡ count (eqb word) (firsts bytes i) + 0
+  miss n = rw (← read, ne-eqb word w (λ e. n (sym e))) at (count-next (eqb word) bytes i)
+
+-- ---- counting the entries that equal a word
+
+pub record Counted (bytes : List ℕ) (word equal i : ℕ) : Type 0 where
+  pub passed : i ≤ length bytes / 2
+  pub count-is : equal ≡ count (eqb word) (firsts bytes i)
+  pub few : equal ≤ i
+
+pub counted-none : (bytes : List ℕ) (word : ℕ) → Counted bytes word 0 0
+counted-none bytes word = record { passed = omega arith; count-is = sym (count-none (eqb word) bytes); few = omega arith }
+
+module _ (bytes : List ℕ) (word equal i w equal′ : ℕ) (so-far : Counted bytes word equal i) (more : i < length bytes / 2) (read : w ≡ entry bytes i) where
+  pub counted-hit : w ≡ word → equal′ ≡ equal + 1 → Counted bytes word equal′ (i + 1)
+  counted-hit e e′ = record { passed = omega arith; count-is = omega (arith, so-far .count-is, hit bytes word i w read e); few = omega (arith, so-far .few) }
+
+  pub counted-miss : (w ≡ word → ⊥) → equal′ ≡ equal → Counted bytes word equal′ (i + 1)
+  counted-miss n e′ = record { passed = omega arith; count-is = omega (arith, so-far .count-is, miss bytes word i w read n); few = omega (arith, so-far .few) }
+
+pub counted-all : (bytes : List ℕ) (word equal i : ℕ) → Counted bytes word equal i → length bytes / 2 ≤ i → equal ≡ count (eqb word) (wordsOf bytes)
+counted-all bytes word equal i so-far h = so-far .count-is ∙ ap (count (eqb word)) (all-firsts bytes i (omega (arith, so-far .passed)))
+
+-- ---- counting those that do not, up to a spare
+
+pub record Missed (bytes : List ℕ) (word spare missed i : ℕ) : Type 0 where
+  pub passed : i ≤ length bytes / 2
+  pub both : missed + count (eqb word) (firsts bytes i) ≡ i
+  pub spared : missed ≤ spare
+
+pub missed-none : (bytes : List ℕ) (word spare : ℕ) → Missed bytes word spare 0 0
+missed-none bytes word spare = record { passed = omega arith; both = omega (arith, count-none (eqb word) bytes); spared = omega arith }
+
+module _ (bytes : List ℕ) (word spare missed i w : ℕ) (so-far : Missed bytes word spare missed i) (more : i < length bytes / 2) (read : w ≡ entry bytes i) where
+  pub missed-hit : (missed′ : ℕ) → w ≡ word → missed′ ≡ missed → Missed bytes word spare missed′ (i + 1)
+  missed-hit missed′ e e′ = record { passed = omega arith; both = omega (arith, hit bytes word i w read e, so-far .both); spared = omega (arith, so-far .spared) }
+
+  pub missed-more : (missed′ : ℕ) → (w ≡ word → ⊥) → (missed ≡ spare → ⊥) → missed′ ≡ missed + 1 → Missed bytes word spare missed′ (i + 1)
+  missed-more missed′ n s e′ =
+      record { passed = omega arith; both = omega (arith, miss bytes word i w read n, so-far .both); spared = omega (arith, so-far .spared) }
+
+  -- one too many
+  pub missed-over : (w ≡ word → ⊥) → missed ≡ spare → false ≡ leb (length (wordsOf bytes)) (count (eqb word) (wordsOf bytes) + spare)
+  missed-over n s =
+      sym (lt-leb (length (wordsOf bytes)) (count (eqb word) (wordsOf bytes) + spare)
+      (omega (arith, entries-rest (eqb word) bytes (i + 1) (omega arith), miss bytes word i w read n, so-far .both, words-count bytes)))
+
+-- no more than are spared
+pub missed-few : (bytes : List ℕ) (word spare missed i : ℕ) → Missed bytes word spare missed i → length bytes / 2 ≤ i →
+    true ≡ leb (length (wordsOf bytes)) (count (eqb word) (wordsOf bytes) + spare)
+missed-few bytes word spare missed i so-far h =
+    let all : firsts bytes i ≡ wordsOf bytes = all-firsts bytes i (omega (arith, so-far .passed)) in
+    sym (le-leb (length (wordsOf bytes)) (count (eqb word) (wordsOf bytes) + spare) (omega (arith, rw all at (so-far .both), so-far .spared, words-count bytes)))

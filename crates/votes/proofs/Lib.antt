@@ -1,0 +1,4 @@
+pub mod Entries
+pub mod Majority
+pub mod Counts
+pub mod Unique
