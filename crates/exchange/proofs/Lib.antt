@@ -1,0 +1,11 @@
+pub mod Refusing
+pub mod Delivering
+pub mod Marks
+pub mod Bytes
+pub mod Ties
+pub mod Gathering
+pub mod Verdict
+pub mod Slots
+pub mod Playing
+pub mod Unique
+pub mod Demands
