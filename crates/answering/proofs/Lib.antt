@@ -1,0 +1,5 @@
+pub mod Writing
+pub mod AnswerText
+pub mod Playing
+pub mod EndOfInput
+pub mod Unique

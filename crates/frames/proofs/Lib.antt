@@ -1,0 +1,4 @@
+pub mod Every
+pub mod FrameRows
+pub mod Bits
+pub mod Unique

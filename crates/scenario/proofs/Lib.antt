@@ -1,0 +1,13 @@
+pub mod Cases
+pub mod Hexadecimal
+pub mod Cutting
+pub mod Marking
+pub mod Outcomes
+pub mod Pieces
+pub mod FromStart
+pub mod LineNumbers
+pub mod AcceptedFiles
+pub mod WordsGiven
+pub mod Refusals
+pub mod EnoughLent
+pub mod Effects

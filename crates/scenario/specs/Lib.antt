@@ -1,0 +1,9 @@
+pub mod Hex
+pub mod Lines
+pub mod Frames
+pub mod Marks
+pub mod Reasons
+pub mod Judging
+pub mod File
+pub mod Answer
+pub mod Feeding
