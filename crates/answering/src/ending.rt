@@ -9,11 +9,11 @@ use crate::lines::put_nodes;
 use crate::lines::put_summary;
 use crate::text::put_line;
 use exchange::exchange;
-use exchange::message_count;
 use reading::stage_of;
 use rules::Settings;
 use rules::Summary;
 use scenario::Reader;
+use settings::message_count;
 use words::high_byte;
 use words::low_byte;
 
@@ -39,7 +39,7 @@ fn play(s: Settings, table: &[u8]) -> Played
     requires { ⌜ Playable s (now table) ⌝ }
     ensures { λ p. ⌜ p ≡ playedWith s (tableGiven s (now (table .entry))) ⌝ }
 {
-    let bytes = 2 * message_count(s);
+    let bytes = 2 * message_count(s.n, s.m);
     let words = 2 * s.n as usize;
     let mut row = [0u8; 30];
     let summary = exchange(s, &table[..bytes], &mut row[..words]);
@@ -74,7 +74,7 @@ fn end_refusal(r: Reader, table: &[u8]) -> u8
     if r.count != 0 {
         return 26;
     }
-    if table.len() < 2 * message_count(r.settings) {
+    if table.len() < 2 * message_count(r.settings.n, r.settings.m) {
         return 8;
     }
     0

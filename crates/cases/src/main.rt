@@ -79,7 +79,7 @@ fn bound(n: u32, m: u32, u: u32) {
     item(m);
     item(u);
     say(b":");
-    item(exchange::settings_refusal(settings(n, m, u, 0)));
+    item(settings::settings_refusal(settings(n, m, u, 0)));
     end_line();
 }
 
@@ -134,7 +134,7 @@ fn four_nodes() {
     let mut row = [0u8; 8];
     played(settings(4, 1, 1, 0), &table, &mut row);
     let nodes = [3u8, 2, 0, 0];
-    let found = routes::cell_of_route(4, 1, 0, Route { nodes, len: 2 });
+    let found = conversions::cell_of_route(4, 1, 0, Route { nodes, len: 2 });
     say(b"route (3,2):");
     item(found.refusal);
     item(found.cell);

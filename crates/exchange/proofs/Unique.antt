@@ -8,8 +8,6 @@ use Rattle.exchange.proofs.exchange.Reads as exchange
 use Rattle.exchange.proofs.exchange.Kinds as exchange-kinds
 use Rattle.exchange.proofs.judging.refusal.Reads as refusal
 use Rattle.exchange.proofs.judging.refusal.Kinds as refusal-kinds
-use Rattle.exchange.proofs.judging.settings_refusal.Reads as settings-refusal
-use Rattle.exchange.proofs.judging.settings_refusal.Kinds as settings-refusal-kinds
 use Rattle.exchange.proofs.told.is_faulty.Reads as is-faulty
 use Rattle.exchange.proofs.told.is_faulty.Kinds as is-faulty-kinds
 use Rattle.exchange.proofs.told.delivered.Reads as delivered
@@ -22,8 +20,6 @@ use Rattle.exchange.proofs.deciding.may_receive.Reads as may-receive
 use Rattle.exchange.proofs.deciding.may_receive.Kinds as may-receive-kinds
 use Rattle.exchange.proofs.deciding.decide.Reads as decide
 use Rattle.exchange.proofs.deciding.decide.Kinds as decide-kinds
-use Rattle.exchange.proofs.judging.message_count.Reads as message-count
-use Rattle.exchange.proofs.judging.message_count.Kinds as message-count-kinds
 use Rattle.exchange.proofs.judging.narrowed.Reads as narrowed
 use Rattle.exchange.proofs.judging.narrowed.Kinds as narrowed-kinds
 use Rattle.exchange.proofs.row.play.Reads as play
@@ -34,9 +30,6 @@ use Rattle.exchange.specs.declared.judging.Judged as J
 -- field by field
 same-judged : (x y : J.Judged) → settingsOf x ≡ settingsOf y → x ≡ y
 same-judged x y h = λ i. record { n = h i .n; m = h i .m; u = h i .u; sender = h i .sender; value = h i .value; faults = h i .faults }
-
-pub one-settings-refusal : OneResult 0 settings-refusal-kinds.ps settings-refusal-kinds.r settings-refusal.Post
-one-settings-refusal κs a x y s t p q = p ∙ sym q
 
 pub one-refusal : OneResult 0 refusal-kinds.ps refusal-kinds.r refusal.Post
 one-refusal κs a x y s t p q = p ∙ sym q
@@ -67,9 +60,6 @@ one-may-receive κs a x y s t p q = p ∙ sym q
 
 pub one-decide : OneResult 1 decide-kinds.ps decide-kinds.r decide.Post
 one-decide κs a x y s t p q = p ∙ sym q
-
-pub one-message-count : OneResult 0 message-count-kinds.ps message-count-kinds.r message-count.Post
-one-message-count κs a x y s t p q = p ∙ sym q
 
 -- judged settings are had from the settings in one way
 pub one-narrowed : OneResult 0 narrowed-kinds.ps narrowed-kinds.r narrowed.Post

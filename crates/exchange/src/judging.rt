@@ -1,10 +1,10 @@
 // Judging: what an exchange is turned away for, and the small struct into which judged settings are copied.
 ghost use mathlib.Core.Path.{_≡_};
-ghost use Rattle.rules.specs.Cells.{cells};
 ghost use Rattle.rules.specs.Refusals.{settingsRefusal, exchangeRefusal};
 ghost use Rattle.exchange.specs.Judged.{settingsOf};
-use routes::cells_before;
 use rules::Settings;
+use settings::message_count;
+use settings::settings_refusal;
 
 // Settings that were judged: each number fits a byte and the whole a register, which is how they travel through the recursion.
 pub struct Judged {
@@ -16,51 +16,6 @@ pub struct Judged {
     pub faults: u16,
 }
 
-// 1 to 7, the lowest that applies, or 0. The numbers are judged as wide as they come, and 2m+u is computed wider.
-pub fn settings_refusal(s: Settings) -> u32
-    ensures { λ k. ⌜ k ≡ settingsRefusal s ⌝ }
-{
-    let n = s.n;
-    let m = s.m;
-    let u = s.u;
-    if n < 4 {
-        return 1;
-    }
-    if n > 15 {
-        return 1;
-    }
-    if m == 0 {
-        return 2;
-    }
-    if m > 3 {
-        return 2;
-    }
-    if u < m {
-        return 3;
-    }
-    if n as u64 <= 2 * (m as u64) + u as u64 {
-        return 4;
-    }
-    if n <= s.sender {
-        return 5;
-    }
-    if s.value > 65000 {
-        return 6;
-    }
-    if s.faults >> n != 0 {
-        return 7;
-    }
-    0
-}
-
-// M, the messages of an exchange.
-pub fn message_count(s: Settings) -> usize
-    requires { ⌜ settingsRefusal s ≡ 0 ⌝ }
-    ensures { λ c. ⌜ c ≡ cells (s .n) (s .m) ⌝ }
-{
-    cells_before(s.n as usize, s.m as usize + 1)
-}
-
 // 1 to 9, for a table and a row of so many bytes, or 0. What stands in the table is not looked at.
 pub fn refusal(s: Settings, table: usize, row: usize) -> u32
     ensures { λ k. ⌜ k ≡ exchangeRefusal s table row ⌝ }
@@ -69,7 +24,7 @@ pub fn refusal(s: Settings, table: usize, row: usize) -> u32
     if number != 0 {
         return number;
     }
-    if table != 2 * message_count(s) {
+    if table != 2 * message_count(s.n, s.m) {
         return 8;
     }
     if row != 2 * s.n as usize {

@@ -1,5 +1,5 @@
 // One exchange of BYZ(m,m): it judges what it is given, decides for every fault-free receiver, writes the decision row and sums
-// up. Routes, votes and words come from the crates below.
+// up. Routes, settings, votes and words come from the crates below.
 ghost use mathlib.Core.Path.{_≡_};
 ghost use lib.ListN.{length};
 ghost use Rattle.rules.specs.Exchange.{summaryOf, rowAfter, classOf};
@@ -9,13 +9,12 @@ mod told; // the word delivered on a route
 mod deciding; // a receiver's entries and their vote
 mod row; // the decision row
 
-pub use judging::message_count;
 use judging::narrowed;
 pub use judging::refusal;
-pub use judging::settings_refusal;
 use row::play;
 use rules::Settings;
 use rules::Summary;
+use settings::message_count;
 
 // 1 if f ≤ m, 2 if m < f ≤ u, 3 if f > u.
 fn class_of(f: u32, m: u32, u: u32) -> u32
@@ -48,7 +47,7 @@ pub fn exchange(s: Settings, table: &[u8], row: &mut [u8]) -> Summary
     let ties = play(narrowed(s), table, row);
     let faults = u16::count_ones(s.faults);
     let fault_class = class_of(faults, s.m, s.u);
-    let messages = message_count(s) as u32;
+    let messages = message_count(s.n, s.m) as u32;
     Summary {
         refusal: 0,
         faults,

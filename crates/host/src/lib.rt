@@ -1,7 +1,6 @@
 // What the package's C host calls, on numbers and byte slices. Each function hands on what it got and judges nothing; its contract
 // is that of the function it calls, restated whole. include/tsegumbar.h declares the same functions for C.
 ghost use mathlib.Core.Path.{_≡_};
-ghost use Prim.Native.Nat.{_+_};
 ghost use mathlib.Core.List.{[], _∷_};
 ghost use lib.ListN.{length};
 ghost use Rattle.rules.specs.Words.{settings};
@@ -66,7 +65,7 @@ pub extern "C" fn tsegumbar_cell_of_route(
     ensures { λ r. ⌜ r ≡ cellFound n m sender (record { nodes = a ∷ b ∷ c ∷ d ∷ []; len = len }) ⌝ }
 {
     let nodes = [a, b, c, d];
-    routes::cell_of_route(n, m, sender, Route { nodes, len })
+    conversions::cell_of_route(n, m, sender, Route { nodes, len })
 }
 
 // Cell to route.
@@ -74,7 +73,7 @@ pub extern "C" fn tsegumbar_cell_of_route(
 pub extern "C" fn tsegumbar_route_of_cell(n: u32, m: u32, sender: u32, cell: u32) -> RouteFound
     ensures { λ r. ⌜ r ≡ routeFound n m sender cell ⌝ }
 {
-    routes::route_of_cell(n, m, sender, cell)
+    conversions::route_of_cell(n, m, sender, cell)
 }
 
 // Where one round's part of a table starts and ends, in bytes.
@@ -82,5 +81,5 @@ pub extern "C" fn tsegumbar_route_of_cell(n: u32, m: u32, sender: u32, cell: u32
 pub extern "C" fn tsegumbar_round_part(n: u32, m: u32, table: &[u8], round: u32) -> RoundPart
     ensures { λ r. ⌜ r ≡ partFound n m (length (now (table .entry))) round ⌝ }
 {
-    routes::round_place(n, m, table.len(), round)
+    conversions::round_place(n, m, table.len(), round)
 }

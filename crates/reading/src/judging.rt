@@ -4,13 +4,13 @@ ghost use Rattle.scenario.specs.Judging.{oneMore, after, opened, told, accepted
 ghost use Rattle.scenario.specs.Feeding.{lineHeld};
 ghost use Rattle.reading.specs.Steps.{desk, Tellable, Acceptable};
 use crate::reasons::line_refusal;
+use conversions::cell_of_route;
 use frames::clear;
 use frames::frame_of;
 use frames::route_in;
 use frames::set_mark;
 use frames::settings_in;
 use frames::word_told;
-use routes::cell_of_route;
 use rules::Settings;
 use scenario::Reader;
 use words::put_word;

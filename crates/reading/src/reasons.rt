@@ -6,8 +6,7 @@ ghost use Rattle.scenario.specs.Frames.{kindOf};
 ghost use Rattle.scenario.specs.Reasons.{stageOf, outOfPlace, lineRefusal};
 ghost use Rattle.scenario.specs.Feeding.{lineHeld};
 ghost use Rattle.reading.specs.Steps.{desk, lentRefusal, openRefusal, tellRefusal, closeRefusal, kindRefusal};
-use exchange::message_count;
-use exchange::settings_refusal;
+use conversions::cell_of_route;
 use frames::count_in;
 use frames::frame_of;
 use frames::is_marked;
@@ -15,9 +14,10 @@ use frames::no_frame;
 use frames::route_in;
 use frames::settings_in;
 use frames::size_of;
-use routes::cell_of_route;
 use rules::Settings;
 use scenario::Reader;
+use settings::message_count;
+use settings::settings_refusal;
 use words::wide;
 
 // The stage that a reader has reached. One with settings that would be refused, or at no known stage, has met no `01` line.
@@ -54,7 +54,7 @@ fn lent_refusal(s: Settings, table: usize, marks: usize) -> u8
     requires { ⌜ settingsRefusal s ≡ 0 ⌝ }
     ensures { λ k. ⌜ k ≡ lentRefusal s table marks ⌝ }
 {
-    let cells = message_count(s);
+    let cells = message_count(s.n, s.m);
     if table < 2 * cells {
         return 8;
     }

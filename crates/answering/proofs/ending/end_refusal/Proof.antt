@@ -1,4 +1,5 @@
 -- `answering::ending::end_refusal` meets its contract.
+use Rattle.settings.proofs.Depths.{settings-deep}
 use Rattle.answering.proofs.EndOfInput.{stage-settled, cells-doubled, end-stopped, end-early, end-unfinished, end-short, end-none}
 use Rattle.answering.proofs.ending.end_refusal.Statement.{statement}
 use Rattle.answering.proofs.ending.end_refusal.Tie as tie
@@ -16,7 +17,7 @@ returns-3 : tie.Need-returns-3
 returns-3 c = search end-unfinished
 
 message-count-requires : tie.Need-message-count-requires
-message-count-requires c κs = search stage-settled
+message-count-requires c κs = search (settings-deep, stage-settled)
 
 mul-if4 : tie.Need-mul-if4
 mul-if4 c = search cells-doubled

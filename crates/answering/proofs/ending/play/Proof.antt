@@ -1,11 +1,12 @@
 -- `answering::ending::play` meets its contract.
+use Rattle.settings.proofs.Depths.{settings-deep}
 use Rattle.answering.proofs.Playing.{row-few, row-part, table-part, played-as}
 use borrow.Author.Needs.{needs}
 use Rattle.answering.proofs.ending.play.Statement.{statement}
 use Rattle.answering.proofs.ending.play.Tie as tie
 
 message-count-requires : tie.Need-message-count-requires
-message-count-requires c κs = search needs
+message-count-requires c κs = search settings-deep
 
 mul-bytes : tie.Need-mul-bytes
 mul-bytes c = search needs

@@ -1,5 +1,6 @@
 -- The settings' number comes first, then the two lengths.
 use mathlib.Core.Path.{sym, _∙_}
+use Rattle.settings.proofs.Depths.{settings-deep}
 use Rattle.exchange.proofs.Refusing
 use borrow.Author.Needs.{needs}
 use Rattle.exchange.proofs.judging.refusal.Statement.{statement}
@@ -12,7 +13,7 @@ returns : tie.Need-returns
 returns c = search Refusing.settings-refused
 
 message-count-requires : tie.Need-message-count-requires
-message-count-requires c κs = search (_∙_, sym)
+message-count-requires c κs = search (settings-deep, _∙_, sym)
 
 mul-if2 : tie.Need-mul-if2
 mul-if2 c = search Refusing.cells-scaled

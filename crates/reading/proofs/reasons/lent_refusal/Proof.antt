@@ -1,12 +1,13 @@
 -- `reading::reasons::lent_refusal` meets its contract.
 use native.Mathlib.Omega.{arith}
+use Rattle.settings.proofs.Depths.{settings-deep}
 use Rattle.reading.proofs.Cascade.{cells-few, short-table, short-marks, lent-enough}
 use borrow.Author.Needs.{needs}
 use Rattle.reading.proofs.reasons.lent_refusal.Statement.{statement}
 use Rattle.reading.proofs.reasons.lent_refusal.Tie as tie
 
 message-count-requires : tie.Need-message-count-requires
-message-count-requires c κs = search needs
+message-count-requires c κs = search settings-deep
 
 mul-if1 : tie.Need-mul-if1
 mul-if1 c = omega (arith, cells-few _ _ (c .message-count .ensures) (c .before .pre))

@@ -1,0 +1,4 @@
+pub mod Found
+pub mod Judged
+pub mod Answered
+pub mod Unique
