@@ -12,7 +12,7 @@ use lib.ListN.{length, take, length-take}
 use lib.Dec.{eqb}
 use Rattle.rules.specs.Cells.{cells}
 use Rattle.rules.specs.Refusals.{because, first, settingsRefusal}
-use Rattle.rules.proofs.Counting.{by-test}
+use Rattle.rules.proofs.Counting.{by-test, or-left}
 use Rattle.scenario.specs.Reasons.{stageOf, stopped, shortTable}
 use Rattle.scenario.specs.File.{cutShort, endReasons, endRefusal, refusedLine, tableGiven}
 use Rattle.scenario.specs.Answer.{refusalFrame, playedFrames, answerFrames, textOf, answerOf}
@@ -20,8 +20,7 @@ use Rattle.scenario.specs.Feeding.{lineHeld, finished}
 use Rattle.answering.specs.Finish.{outAfter, lengthAfter, Playable}
 use Rattle.scenario.specs.declared.Reader.{Reader}
 use Rattle.scenario.proofs.Outcomes.{passed}
-use Rattle.frames.proofs.FrameRows.{or-left}
-use Rattle.reading.proofs.Cascade.{cells-few}
+use Rattle.reasons.proofs.KindCascade.{cells-few}
 
 -- a reader at a stage has accepted settings
 pub stage-settled : (r : Reader) (stage : ℕ) → stage ≡ stageOf r → stage ≡ 2 → settingsRefusal (r .settings) ≡ 0

@@ -9,7 +9,7 @@ use crate::lines::put_nodes;
 use crate::lines::put_summary;
 use crate::text::put_line;
 use exchange::exchange;
-use reading::stage_of;
+use reasons::stage_of;
 use rules::Settings;
 use rules::Summary;
 use scenario::Reader;

@@ -1,6 +1,6 @@
 -- Laws of a line that is held as a row of 19 bytes and a count, and of its frame as a row of nine.
 use mathlib.Core.Path.{_≡_, refl, ap}
-use mathlib.Core.Bool.{Bool, true, false, not, _||_, or-true, true≢false}
+use mathlib.Core.Bool.{Bool, true, false, not, _||_, or-true}
 use mathlib.Core.Logic.{_≢_}
 use mathlib.Core.List.{List, [], _∷_, _++_}
 use Prim.Native.Nat.{ℕ, zero, suc, _+_, _-_, _*_, _%_, _≤_, _<_}
@@ -10,20 +10,12 @@ use lib.Seq.{length-take-le, set-append-seam, append-snoc}
 use lib.Dec.{eqb, ltb}
 use borrow.Author.Tests.{eq-eqb, ne-eqb, lt-ltb, le-ltb, eqb-true, ltb-false, not-false}
 use Rattle.rules.specs.Lists.{all}
+use Rattle.rules.proofs.Counting.{or-left, or-right}
 use Rattle.scenario.specs.Hex.{isDigit, digitValue, frameOf}
-use Rattle.scenario.specs.Reasons.{noFrame}
+use Rattle.scenario.specs.Frames.{settingsIn, routeIn, wordTold, countIn}
+use Rattle.scenario.specs.Reasons.{noFrame, sizeOf}
 use Rattle.frames.specs.Rows.{frameRow}
 use Rattle.scenario.proofs.Hexadecimal.{length-frame}
-
--- a test of either that fails, fails of both
-pub or-left : (a b : Bool) → (a || b) ≡ false → a ≡ false
-or-left true b e = e
-or-left false b e = refl
-
--- and so the second
-pub or-right : (a b : Bool) → (a || b) ≡ false → b ≡ false
-or-right true b e = absurd (true≢false e)
-or-right false b e = e
 
 -- ---- what is refused as no frame
 
@@ -120,3 +112,29 @@ row-byte frame i = go frame (9 - length frame) i
     go [] k j = none k j
     go (x ∷ xs) k zero = refl
     go (x ∷ xs) k (suc j) = go xs k j
+
+module _ (frame : List ℕ) where
+  -- so it says what the frame says: the same settings
+  pub settings-row : settingsIn (frameRow frame) ≡ settingsIn frame
+  unfolding settingsIn
+  settings-row = simp row-byte
+
+  -- the same route
+  pub route-row : routeIn (frameRow frame) ≡ routeIn frame
+  unfolding routeIn
+  route-row = simp row-byte
+
+  -- the same word
+  pub told-row : wordTold (frameRow frame) ≡ wordTold frame
+  unfolding wordTold
+  told-row = simp row-byte
+
+  -- the same count
+  pub count-row : countIn (frameRow frame) ≡ countIn frame
+  unfolding countIn
+  count-row = simp row-byte
+
+  -- and the same size
+  pub size-row : sizeOf (frameRow frame) ≡ sizeOf frame
+  unfolding sizeOf
+  size-row = simp row-byte

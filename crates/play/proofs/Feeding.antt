@@ -4,9 +4,8 @@ use mathlib.Core.List.{List, [], _∷_, _++_, foldl-append}
 use Prim.Native.Nat.{ℕ, _≤_}
 use lib.ListN.{length, take}
 use lib.Seq.{length-take-le}
-use Rattle.scenario.specs.Reasons.{Desk}
+use Rattle.scenario.specs.Reasons.{Desk, desk}
 use Rattle.scenario.specs.Feeding.{fed}
-use Rattle.reading.specs.Steps.{desk}
 use Rattle.answering.specs.Finish.{lengthAfter}
 use Rattle.scenario.specs.declared.Reader.{Reader}
 use Rattle.answering.proofs.AnswerText.{length-within}

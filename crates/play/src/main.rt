@@ -1,6 +1,6 @@
 // The program for one exchange: it moves the bytes of standard input to the reader of scenario files and writes the reader's
 // answer. It judges nothing itself. A read that fails is no end of the input: then nothing is written.
-ghost use Rattle.reading.specs.Steps.{desk};
+ghost use Rattle.scenario.specs.Reasons.{desk};
 ghost use Rattle.scenario.specs.File.{begun};
 ghost use Rattle.play.specs.Pieces.{Fed};
 use scenario::Reader;

@@ -22,16 +22,16 @@ use Rattle.rules.proofs.Rows.{length-back}
 use Rattle.scenario.specs.Hex.{frameOf}
 use Rattle.scenario.specs.Frames.{byteIn, kindOf, settingsIn, routeIn, wordTold}
 use Rattle.scenario.specs.Marks.{mark, bitsOf}
-use Rattle.scenario.specs.Reasons.{Desk, stageOf, stopped, noFrame, outOfPlace, cellIn, routeless, shortTable, shortMarks, lentReasons, tellReasons, kindReasons, lineReasons, lineRefusal}
+use Rattle.scenario.specs.Reasons.{Desk, desk, stageOf, stopped, noFrame, outOfPlace, cellIn, routeless, shortTable, shortMarks, lentReasons, tellReasons, kindReasons, lineReasons, lineRefusal}
 use Rattle.scenario.specs.Judging.{oneMore, after, opened, told, closed, accepted, refusedWith, settled, judged}
 use Rattle.scenario.specs.Feeding.{lineHeld}
 use Rattle.frames.specs.Rows.{frameRow}
-use Rattle.reading.specs.Steps.{desk, kindRefusal, Tellable, Acceptable}
+use Rattle.reasons.specs.Steps.{kindRefusal}
+use Rattle.reading.specs.Steps.{Tellable, Acceptable}
 use Rattle.scenario.specs.declared.Reader.{Reader}
 use Rattle.scenario.proofs.Outcomes.{passed}
-use Rattle.frames.proofs.FrameRows.{row-byte}
-use Rattle.reading.proofs.LineCascade.{settings-row, route-row, told-row, kind-row}
-use Rattle.reading.proofs.Cascade.{placed, not-placed, opened-before}
+use Rattle.frames.proofs.FrameRows.{row-byte, settings-row, route-row, told-row}
+use Rattle.reasons.proofs.KindCascade.{placed, not-placed, opened-before, kind-row}
 
 -- ---- an `02` line
 
@@ -162,7 +162,7 @@ module _ (r : Reader) (table marks : List ℕ) (running : r .refusal ≡ 0) (k :
       pub acceptable : Acceptable (desk r table marks) row
       acceptable = record {
         place = rw (read, row-byte) (held-passed .place);
-        line = rw read (ap first (kind-row (frameOf (take count (r .held))) (desk r table marks)) ∙ held-passed .kind);
+        line = rw read (ap first (kind-row (desk r table marks) (frameOf (take count (r .held)))) ∙ held-passed .kind);
       }
 
       -- and what it does is done

@@ -6,10 +6,9 @@ use native.Mathlib.Numerals.{add-one}
 use lib.ListN.{length, take, getD}
 use lib.Seq.{take-suc}
 use borrow.Author.Tests.{eq-eqb, ne-eqb, le-ltb}
-use Rattle.scenario.specs.Reasons.{Desk}
+use Rattle.scenario.specs.Reasons.{Desk, desk}
 use Rattle.scenario.specs.Judging.{judged}
 use Rattle.scenario.specs.Feeding.{lineHeld, keeping, taken, fed}
-use Rattle.reading.specs.Steps.{desk}
 use Rattle.scenario.specs.declared.Reader.{Reader}
 
 -- ---- a byte of the line begun

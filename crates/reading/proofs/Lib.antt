@@ -1,5 +1,3 @@
-pub mod Cascade
-pub mod LineCascade
 pub mod Accepting
 pub mod Bytewise
 pub mod Unique

@@ -4,15 +4,10 @@ use contract.Lifetimes.{Lfts}
 use denote.Triple.Clauses.{AtExit}
 use borrow.Fn.Kinds.{Dens, resT, endedOf}
 use Rattle.rules.proofs.Results.{OneResult}
-use Rattle.reading.proofs.reasons.stage_of.Reads as stage-of
-use Rattle.reading.proofs.reasons.stage_of.Kinds as stage-of-kinds
 use Rattle.reading.proofs.feeding.start.Reads as start
 use Rattle.reading.proofs.feeding.start.Kinds as start-kinds
 use Rattle.reading.proofs.feeding.feed.Reads as feed
 use Rattle.reading.proofs.feeding.feed.Kinds as feed-kinds
-
-pub one-stage-of : OneResult 0 stage-of-kinds.ps stage-of-kinds.r stage-of.Post
-one-stage-of κs a x y s t p q = p ∙ sym q
 
 pub one-start : OneResult 0 start-kinds.ps start-kinds.r start.Post
 one-start κs a x y s t p q = p ∙ sym q

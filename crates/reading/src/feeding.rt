@@ -1,8 +1,8 @@
 // A file taken as its bytes come.
 ghost use mathlib.Core.Path.{_≡_};
+ghost use Rattle.scenario.specs.Reasons.{desk};
 ghost use Rattle.scenario.specs.File.{fresh};
 ghost use Rattle.scenario.specs.Feeding.{keeping, taken, fed};
-ghost use Rattle.reading.specs.Steps.{desk};
 use crate::judging::judge_line;
 use rules::Settings;
 use scenario::Reader;

@@ -1,9 +1,9 @@
 // One line judged: what it does to the reader, the lent table and the lent marks.
 ghost use mathlib.Core.Path.{_≡_};
+ghost use Rattle.scenario.specs.Reasons.{desk};
 ghost use Rattle.scenario.specs.Judging.{oneMore, after, opened, told, accepted, judged};
 ghost use Rattle.scenario.specs.Feeding.{lineHeld};
-ghost use Rattle.reading.specs.Steps.{desk, Tellable, Acceptable};
-use crate::reasons::line_refusal;
+ghost use Rattle.reading.specs.Steps.{Tellable, Acceptable};
 use conversions::cell_of_route;
 use frames::clear;
 use frames::frame_of;
@@ -11,6 +11,7 @@ use frames::route_in;
 use frames::set_mark;
 use frames::settings_in;
 use frames::word_told;
+use reasons::line_refusal;
 use rules::Settings;
 use scenario::Reader;
 use words::put_word;

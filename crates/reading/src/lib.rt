@@ -2,8 +2,6 @@
 // as soon as it ends.
 mod feeding; // bytes as they come
 mod judging; // what a line does
-mod reasons; // why a line is refused
 
 pub use feeding::feed;
 pub use feeding::start;
-pub use reasons::stage_of;

@@ -1,7 +1,7 @@
 -- What acceptance means, as plain facts: a refusal number is 0 exactly when these facts hold.
-use mathlib.Core.Path.{_≡_, refl}
+use mathlib.Core.Path.{_≡_}
 use mathlib.Core.Logic.{_↔_, Iff·trans}
-use mathlib.Core.Bool.{Bool, true, false, not, _||_, true≢false}
+use mathlib.Core.Bool.{true, false, not}
 use mathlib.Core.List.{List, [], _∷_}
 use Prim.Native.Nat.{ℕ, _+_, _*_, _/_, _%_, _^_, _≤_, _<_}
 use native.Mathlib.Nat.{div-eq-of-lt, div-lt-iff-lt-mul}
@@ -15,6 +15,7 @@ use Rattle.rules.specs.Cells.{cells}
 use Rattle.rules.specs.Refusals.{Reason, because, first, wrongNodes, wrongRounds, lowBound, tooFew, tooFewAlone, noSender, reservedValue, strayFault, wrongTable, wrongRow, noThreshold, oddList, noRoute, noCell, noRound, settingsReasons, exchangeReasons, layoutReasons, routeReasons, cellReasons, partReasons, voteReasons, settingsRefusal, exchangeRefusal, routeRefusal, cellRefusal, partRefusal, voteRefusal}
 use Rattle.rules.specs.declared.Settings.{Settings}
 use Rattle.rules.specs.declared.Route as R
+use Rattle.rules.proofs.Counting.{or-left, or-right}
 use Rattle.rules.proofs.Refused.{NoneApplies, end, _⨾_, none-split, none-join, first-zero, settings-ascend, layout-ascend, exchange-passed, route-passed, cell-passed, part-passed, vote-passed}
 
 -- ---- the facts
@@ -69,14 +70,6 @@ pub record VoteAccepted (q list : ℕ) : Type 0 where
   pub even : list % 2 ≡ 0
 
 -- ---- each condition, where it does not hold
-
-or-left : (a b : Bool) → (a || b) ≡ false → a ≡ false
-or-left true b e = e
-or-left false b e = refl
-
-or-right : (a b : Bool) → (a || b) ≡ false → b ≡ false
-or-right true b e = absurd (true≢false e)
-or-right false b e = e
 
 nodes-right : (n : ℕ) → (wrongNodes n ≡ false) ↔ ((4 ≤ n) × (n ≤ 15))
 unfolding wrongNodes

@@ -8,7 +8,7 @@ use Rattle.rules.specs.Cells.{cells}
 use Rattle.rules.specs.Refusals.{Reason, because, first}
 use Rattle.rules.specs.declared.Settings.{Settings}
 use Rattle.scenario.specs.Lines.{linesOf, restOf}
-use Rattle.scenario.specs.Reasons.{Desk, stageOf, stopped, shortTable}
+use Rattle.scenario.specs.Reasons.{Desk, desk, stageOf, stopped, shortTable}
 use Rattle.scenario.specs.Judging.{judgedAll}
 use Rattle.scenario.specs.declared.Reader.{Reader}
 
@@ -26,7 +26,7 @@ fresh = record {
 
 -- over a lent table and lent marks
 abbrev pub begun : List ℕ → List ℕ → Desk
-begun table marks = record { reader = fresh; table = table; marks = marks }
+begun table marks = desk fresh table marks
 
 -- all complete lines of a file judged in their order
 unfoldable pub fileJudged : List ℕ → List ℕ → List ℕ → Desk

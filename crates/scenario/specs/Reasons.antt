@@ -20,6 +20,9 @@ pub record Desk : Type 0 where
   pub table : List ℕ
   pub marks : List ℕ
 
+abbrev pub desk : Reader → List ℕ → List ℕ → Desk
+desk r table marks = record { reader = r; table = table; marks = marks }
+
 -- The reader passes through the host's hands. One with settings that would be refused, or at no known stage, has met no `01` line.
 unfoldable pub stageOf : Reader → ℕ
 stageOf r = cond (eqb (settingsRefusal (r .settings)) 0 && ltb (r .stage) 3) (r .stage) 0

@@ -4,9 +4,8 @@ use mathlib.Core.List.{List}
 use Prim.Native.Nat.{ℕ}
 use native.Mathlib.Omega.{arith}
 use lib.ListN.{length}
-use Rattle.scenario.specs.Reasons.{Desk}
+use Rattle.scenario.specs.Reasons.{Desk, desk}
 use Rattle.scenario.specs.File.{begun}
-use Rattle.reading.specs.Steps.{desk}
 use Rattle.play.specs.Pieces.{Fed}
 use Rattle.play.proofs.Feeding.{fed-none, fed-then}
 use Rattle.play.proofs.read_all.Statement.{statement}

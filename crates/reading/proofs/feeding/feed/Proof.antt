@@ -5,9 +5,8 @@ use Prim.Native.Nat.{ℕ, _-_, _≤_}
 use native.Mathlib.Omega.{arith}
 use lib.ListN.{length, take}
 use lib.Seq.{take-all}
-use Rattle.scenario.specs.Reasons.{Desk}
+use Rattle.scenario.specs.Reasons.{Desk, desk}
 use Rattle.scenario.specs.Feeding.{fed}
-use Rattle.reading.specs.Steps.{desk}
 use Rattle.reading.proofs.Bytewise.{fed-more}
 use Rattle.reading.proofs.feeding.feed.Statement.{statement}
 use Rattle.reading.proofs.feeding.feed.Tie as tie

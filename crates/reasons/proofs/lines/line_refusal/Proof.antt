@@ -1,8 +1,8 @@
--- `reading::reasons::line_refusal` meets its contract.
-use Rattle.reading.proofs.LineCascade.{line-none, line-out, line-wrong, line-kind, in-place}
+-- `reasons::lines::line_refusal` meets its contract.
+use Rattle.reasons.proofs.LineCascade.{line-none, line-out, line-wrong, line-kind, in-place}
 use borrow.Author.Needs.{needs}
-use Rattle.reading.proofs.reasons.line_refusal.Statement.{statement}
-use Rattle.reading.proofs.reasons.line_refusal.Tie as tie
+use Rattle.reasons.proofs.lines.line_refusal.Statement.{statement}
+use Rattle.reasons.proofs.lines.line_refusal.Tie as tie
 
 wide-requires : tie.Need-wide-requires
 wide-requires c κs = tt

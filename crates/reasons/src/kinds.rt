@@ -1,53 +1,19 @@
-// Why a line is refused: the numbers in their order.
+// The refusals that belong to each kind of line: what an `01`, an `02` and an `03` line must hold, and then what must be lent.
 ghost use mathlib.Core.Path.{_≡_};
 ghost use mathlib.Core.Bool.{false};
 ghost use Rattle.rules.specs.Refusals.{settingsRefusal};
 ghost use Rattle.scenario.specs.Frames.{kindOf};
-ghost use Rattle.scenario.specs.Reasons.{stageOf, outOfPlace, lineRefusal};
-ghost use Rattle.scenario.specs.Feeding.{lineHeld};
-ghost use Rattle.reading.specs.Steps.{desk, lentRefusal, openRefusal, tellRefusal, closeRefusal, kindRefusal};
+ghost use Rattle.scenario.specs.Reasons.{desk, stageOf, outOfPlace};
+ghost use Rattle.reasons.specs.Steps.{lentRefusal, openRefusal, tellRefusal, closeRefusal, kindRefusal};
 use conversions::cell_of_route;
 use frames::count_in;
-use frames::frame_of;
 use frames::is_marked;
-use frames::no_frame;
 use frames::route_in;
 use frames::settings_in;
-use frames::size_of;
 use rules::Settings;
 use scenario::Reader;
 use settings::message_count;
 use settings::settings_refusal;
-use words::wide;
-
-// The stage that a reader has reached. One with settings that would be refused, or at no known stage, has met no `01` line.
-pub fn stage_of(r: Reader) -> u8
-    ensures { λ k. ⌜ k ≡ stageOf r ⌝ }
-{
-    if settings_refusal(r.settings) != 0 {
-        return 0;
-    }
-    if r.stage >= 3 {
-        return 0;
-    }
-    r.stage
-}
-
-// 21: an unknown kind or one out of place.
-fn out_of_place(stage: u8, kind: u8) -> bool
-    ensures { λ b. ⌜ b ≡ outOfPlace stage kind ⌝ }
-{
-    if stage == 0 {
-        return kind != 1;
-    }
-    if stage == 1 {
-        if kind == 2 {
-            return false;
-        }
-        return kind != 3;
-    }
-    true
-}
 
 // 8 and 10: so many bytes of table and marks are too few for the settings.
 fn lent_refusal(s: Settings, table: usize, marks: usize) -> u8
@@ -104,7 +70,7 @@ fn close_refusal(r: Reader, frame: [u8; 9], table: &[u8], marks: &[u8]) -> u8
 }
 
 // Those of a line that is in its place, by its kind.
-fn kind_refusal(r: Reader, frame: [u8; 9], table: &[u8], marks: &[u8]) -> u8
+pub fn kind_refusal(r: Reader, frame: [u8; 9], table: &[u8], marks: &[u8]) -> u8
     requires { ⌜ outOfPlace (stageOf r) (kindOf frame) ≡ false ⌝ }
     ensures { λ k. ⌜ k ≡ kindRefusal (desk r (now (table .entry)) (now (marks .entry))) frame ⌝ }
 {
@@ -115,23 +81,4 @@ fn kind_refusal(r: Reader, frame: [u8; 9], table: &[u8], marks: &[u8]) -> u8
         return tell_refusal(r, frame, table, marks);
     }
     close_refusal(r, frame, table, marks)
-}
-
-// All of a line's refusals; 0 where it is accepted.
-pub fn line_refusal(r: Reader, table: &[u8], marks: &[u8]) -> u8
-    ensures { λ k. ⌜ k ≡ lineRefusal (desk r (now (table .entry)) (now (marks .entry))) (lineHeld r) ⌝ }
-{
-    let held = r.held;
-    let count = wide(r.count);
-    if no_frame(held, count) {
-        return 20;
-    }
-    let frame = frame_of(held, count);
-    if out_of_place(stage_of(r), frame[0]) {
-        return 21;
-    }
-    if count / 2 != size_of(frame) {
-        return 22;
-    }
-    kind_refusal(r, frame, table, marks)
 }

@@ -1,8 +1,8 @@
--- `reading::reasons::tell_refusal` meets its contract.
-use Rattle.reading.proofs.Cascade.{placed, not-placed, no-route, given-twice, told-once}
+-- `reasons::kinds::tell_refusal` meets its contract.
+use Rattle.reasons.proofs.KindCascade.{placed, not-placed, no-route, given-twice, told-once}
 use borrow.Author.Needs.{needs}
-use Rattle.reading.proofs.reasons.tell_refusal.Statement.{statement}
-use Rattle.reading.proofs.reasons.tell_refusal.Tie as tie
+use Rattle.reasons.proofs.kinds.tell_refusal.Statement.{statement}
+use Rattle.reasons.proofs.kinds.tell_refusal.Tie as tie
 
 route-in-requires : tie.Need-route-in-requires
 route-in-requires c κs = tt

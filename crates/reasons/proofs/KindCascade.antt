@@ -1,44 +1,33 @@
--- What the code's tests answer is the first refusal that applies: one law for each answer, over the tests passed before it.
-use mathlib.Core.Path.{_≡_, refl, sym, _∙_}
+-- What the tests of `kinds` answer is the first refusal that applies: one law for each answer, over the tests passed before it.
+use mathlib.Core.Path.{_≡_, sym, _∙_}
 use mathlib.Core.Bool.{Bool, true, false, true≢false}
-use mathlib.Core.List.{List, [], _∷_}
+use mathlib.Core.List.{List}
 use Prim.Native.Nat.{ℕ, _+_, _*_, _/_, _≤_, _<_}
 use native.Mathlib.Omega.{arith}
 use mir.Syntax.{w8}
 use mir.Val.{Fits}
 use lib.ListN.{length, getD}
-use lib.Dec.{eqb, leb}
-use borrow.Author.Tests.{eq-eqb, ne-eqb, lt-ltb, le-ltb, leb-true, eqb-true}
-use Rattle.rules.specs.Lists.{all}
+use lib.Dec.{eqb}
+use borrow.Author.Tests.{eq-eqb, ne-eqb, lt-ltb, le-ltb, eqb-true}
 use Rattle.rules.specs.Routes.{held, isRoute}
-use Rattle.rules.specs.Cells.{cells, cell}
-use Rattle.rules.specs.Refusals.{Reason, first, noRoute, settingsReasons, settingsRefusal, routeRefusal}
+use Rattle.rules.specs.Cells.{cells}
+use Rattle.rules.specs.Refusals.{first, noRoute, settingsReasons, settingsRefusal, routeRefusal}
 use Rattle.rules.specs.Answers.{cellFound}
 use Rattle.rules.specs.declared.Settings.{Settings}
 use Rattle.rules.specs.declared.Route as R
 use Rattle.rules.specs.declared.CellFound.{CellFound}
-use Rattle.rules.proofs.Counting.{by-test, and-left, and-right}
-use Rattle.rules.proofs.Refused.{numbers, first-zero, first-front, first-rest, settings-ascend}
+use Rattle.rules.proofs.Counting.{by-test}
+use Rattle.rules.proofs.Refused.{first-zero, first-front, first-rest, settings-ascend}
 use Rattle.rules.proofs.Accepted.{settings-accepted, layout-of, route-accepted}
 use Rattle.rules.proofs.Growth.{messages-most}
 use Rattle.scenario.specs.Frames.{settingsIn, routeIn, countIn, kindOf}
 use Rattle.scenario.specs.Marks.{marked}
-use Rattle.scenario.specs.Reasons.{stageOf, inPlace, outOfPlace, cellIn, routeless, givenBefore, wrongCount, shortTable, shortMarks, lentReasons, openReasons, tellReasons, closeReasons, kindReasons}
-use Rattle.reading.specs.Steps.{desk, lentRefusal, openRefusal, tellRefusal, closeRefusal, kindRefusal}
+use Rattle.scenario.specs.Reasons.{Desk, desk, stageOf, inPlace, outOfPlace, cellIn, routeless, givenBefore, wrongCount, shortTable, shortMarks, lentReasons, openReasons, tellReasons, closeReasons, kindReasons}
+use Rattle.reasons.specs.Steps.{lentRefusal, openRefusal, tellRefusal, closeRefusal, kindRefusal}
 use Rattle.scenario.specs.declared.Reader.{Reader}
-
--- ---- lists of reasons
-
--- no answer is above all of the numbers
-first-most : (b : ℕ) (l : List Reason) → all (λ x. leb x b) (numbers l) ≡ true → first l ≤ b
-unfolding first all
-first-most b [] h = omega arith
-first-most b (r ∷ l) h =
-    let here = and-left (leb (r .number) b) (all (λ x. leb x b) (numbers l)) h in
-    let rest = and-right (leb (r .number) b) (all (λ x. leb x b) (numbers l)) h in
-    by-test (r .applies)
-    (λ (e : r .applies ≡ true). rw e (leb-true (r .number) b here))
-    (λ (e : r .applies ≡ false). rw e (first-most b l rest))
+use Rattle.scenario.proofs.Refusals.{first-below, settings-numbered}
+use Rattle.frames.specs.Rows.{frameRow}
+use Rattle.frames.proofs.FrameRows.{row-byte, settings-row, route-row, count-row}
 
 -- ---- 8 and 10
 
@@ -66,8 +55,7 @@ module _ (s : Settings) (table marks : ℕ) (k : ℕ) (is : k ≡ cells (s .n) (
 
 -- the settings' refusals are 7 at the most
 pub settings-byte : (s : Settings) (k : ℕ) → k ≡ settingsRefusal s → Fits w8 k
-unfolding settingsReasons all
-settings-byte s k e = record { fits = omega (arith, first-most 7 (settingsReasons s) refl) }
+settings-byte s k e = record { fits = omega (arith, first-below 7 (settingsReasons s) (settings-numbered s)) }
 
 module _ (frame table marks : List ℕ) (s : Settings) (read : s ≡ settingsIn frame) (k : ℕ) (is : k ≡ settingsRefusal s) where
   -- settings that are refused are the `01` line's refusal
@@ -162,7 +150,7 @@ module _ (r : Reader) (frame table marks : List ℕ) where
   unfolding kindReasons
   kind-three one two k is = rw (ne-eqb (getD frame 0 0) 1 one, ne-eqb (getD frame 0 0) 2 two) is
 
--- ---- stages and places
+-- ---- before an `02` or an `03` line
 
 -- a line that is no `01` line is in its place only behind an accepted one
 pub opened-before : (r : Reader) (frame : List ℕ) → outOfPlace (stageOf r) (kindOf frame) ≡ false → (getD frame 0 0 ≡ 1 → ⊥) → settingsRefusal (r .settings) ≡ 0
@@ -173,18 +161,9 @@ opened-before r frame e ne =
     (λ (z : eqb k 0 ≡ true). eqb-true k 0 z)
     (λ (z : eqb k 0 ≡ false). absurd (true≢false (rw (z, ne-eqb (getD frame 0 0) 1 ne) at e)))
 
-module _ (r : Reader) (k : ℕ) (is : k ≡ settingsRefusal (r .settings)) where
-  -- settings that would be refused: no `01` line was met
-  pub stage-none : (k ≡ 0 → ⊥) → 0 ≡ stageOf r
-  unfolding stageOf
-  stage-none h = rw (← is, ne-eqb k 0 h)
+-- ---- a frame and its row
 
-  -- nor was one at a stage that is none
-  pub stage-unknown : k ≡ 0 → 3 ≤ r .stage → 0 ≡ stageOf r
-  unfolding stageOf
-  stage-unknown z h = rw (← is, z, le-ltb (r .stage) 3 h)
-
-  -- else the reader is at the stage that it says
-  pub stage-known : k ≡ 0 → r .stage < 3 → r .stage ≡ stageOf r
-  unfolding stageOf
-  stage-known z h = rw (← is, z, lt-ltb (r .stage) 3 h)
+-- the row that holds a frame has the frame's refusals
+pub kind-row : (d : Desk) (frame : List ℕ) → kindReasons d (frameRow frame) ≡ kindReasons d frame
+unfolding kindReasons openReasons tellReasons closeReasons routeless givenBefore cellIn wrongCount
+kind-row d frame = simp (row-byte, settings-row, route-row, count-row)

@@ -1,8 +1,8 @@
--- `reading::reasons::kind_refusal` meets its contract.
-use Rattle.reading.proofs.Cascade.{opened-before, kind-one, kind-two, kind-three}
+-- `reasons::kinds::kind_refusal` meets its contract.
+use Rattle.reasons.proofs.KindCascade.{opened-before, kind-one, kind-two, kind-three}
 use borrow.Author.Needs.{needs}
-use Rattle.reading.proofs.reasons.kind_refusal.Statement.{statement}
-use Rattle.reading.proofs.reasons.kind_refusal.Tie as tie
+use Rattle.reasons.proofs.kinds.kind_refusal.Statement.{statement}
+use Rattle.reasons.proofs.kinds.kind_refusal.Tie as tie
 
 array-read-if1 : tie.Need-array-read-if1
 array-read-if1 c = search needs

@@ -1,8 +1,8 @@
--- `reading::reasons::close_refusal` meets its contract.
-use Rattle.reading.proofs.Cascade.{miscounted, counted}
+-- `reasons::kinds::close_refusal` meets its contract.
+use Rattle.reasons.proofs.KindCascade.{miscounted, counted}
 use borrow.Author.Needs.{needs}
-use Rattle.reading.proofs.reasons.close_refusal.Statement.{statement}
-use Rattle.reading.proofs.reasons.close_refusal.Tie as tie
+use Rattle.reasons.proofs.kinds.close_refusal.Statement.{statement}
+use Rattle.reasons.proofs.kinds.close_refusal.Tie as tie
 
 count-in-requires : tie.Need-count-in-requires
 count-in-requires c κs = tt

@@ -1,7 +1,7 @@
--- `reading::reasons::out_of_place` meets its contract.
-use Rattle.reading.proofs.LineCascade.{place-first, place-tell, place-close, place-last}
-use Rattle.reading.proofs.reasons.out_of_place.Statement.{statement}
-use Rattle.reading.proofs.reasons.out_of_place.Tie as tie
+-- `reasons::lines::out_of_place` meets its contract.
+use Rattle.reasons.proofs.LineCascade.{place-first, place-tell, place-close, place-last}
+use Rattle.reasons.proofs.lines.out_of_place.Statement.{statement}
+use Rattle.reasons.proofs.lines.out_of_place.Tie as tie
 
 returns : tie.Need-returns
 returns c = search place-first

@@ -2,23 +2,40 @@
 use mathlib.Core.Path.{_≡_, sym, ap, _∙_}
 use mathlib.Core.Bool.{Bool, true, false, not, or-false}
 use mathlib.Core.List.{List, map}
-use Prim.Native.Nat.{ℕ, _/_}
+use Prim.Native.Nat.{ℕ, _/_, _≤_, _<_}
 use borrow.Author.Needs.{length-unmapped}
-use borrow.Author.Tests.{eq-eqb, ne-eqb}
+use borrow.Author.Tests.{eq-eqb, ne-eqb, lt-ltb, le-ltb}
 use lib.ListN.{length, take, getD}
 use lib.Dec.{eqb}
-use Rattle.rules.specs.Refusals.{first}
+use Rattle.rules.specs.Refusals.{first, settingsRefusal}
 use Rattle.scenario.specs.Hex.{frameOf}
-use Rattle.scenario.specs.Frames.{kindOf, settingsIn, routeIn, countIn, wordTold}
-use Rattle.scenario.specs.Reasons.{stageOf, noFrame, inPlace, outOfPlace, sizeOf, wrongSize, cellIn, routeless, givenBefore, wrongCount, openReasons, tellReasons, closeReasons, kindReasons, lineReasons, lineRefusal, Desk}
+use Rattle.scenario.specs.Frames.{kindOf}
+use Rattle.scenario.specs.Reasons.{Desk, desk, stageOf, noFrame, inPlace, outOfPlace, sizeOf, wrongSize, lineReasons, lineRefusal}
 use Rattle.scenario.specs.Feeding.{lineHeld}
 use Rattle.frames.specs.Rows.{frameRow}
-use Rattle.reading.specs.Steps.{desk, kindRefusal}
+use Rattle.reasons.specs.Steps.{kindRefusal}
 use Rattle.scenario.specs.declared.Reader.{Reader}
 use Rattle.scenario.proofs.Hexadecimal.{length-frame}
-use Rattle.frames.proofs.FrameRows.{row-byte, framed, held-short}
+use Rattle.frames.proofs.FrameRows.{row-byte, size-row, framed, held-short}
+use Rattle.reasons.proofs.KindCascade.{kind-row}
 
--- ---- places
+-- ---- stages and places
+
+module _ (r : Reader) (k : ℕ) (is : k ≡ settingsRefusal (r .settings)) where
+  -- settings that would be refused: no `01` line was met
+  pub stage-none : (k ≡ 0 → ⊥) → 0 ≡ stageOf r
+  unfolding stageOf
+  stage-none h = rw (← is, ne-eqb k 0 h)
+
+  -- nor was one at a stage that is none
+  pub stage-unknown : k ≡ 0 → 3 ≤ r .stage → 0 ≡ stageOf r
+  unfolding stageOf
+  stage-unknown z h = rw (← is, z, le-ltb (r .stage) 3 h)
+
+  -- else the reader is at the stage that it says
+  pub stage-known : k ≡ 0 → r .stage < 3 → r .stage ≡ stageOf r
+  unfolding stageOf
+  stage-known z h = rw (← is, z, lt-ltb (r .stage) 3 h)
 
 module _ (stage kind : ℕ) where
   -- first only an `01` line is in its place
@@ -40,37 +57,6 @@ module _ (stage kind : ℕ) where
   pub place-last : (stage ≡ 0 → ⊥) → (stage ≡ 1 → ⊥) → true ≡ outOfPlace stage kind
   unfolding outOfPlace inPlace
   place-last z o = rw (ne-eqb stage 0 z, ne-eqb stage 1 o)
-
--- ---- a frame's row says what the frame says
-
-module _ (frame : List ℕ) where
-  -- the same settings
-  pub settings-row : settingsIn (frameRow frame) ≡ settingsIn frame
-  unfolding settingsIn
-  settings-row = simp row-byte
-
-  -- the same route
-  pub route-row : routeIn (frameRow frame) ≡ routeIn frame
-  unfolding routeIn
-  route-row = simp row-byte
-
-  -- the same word
-  pub told-row : wordTold (frameRow frame) ≡ wordTold frame
-  unfolding wordTold
-  told-row = simp row-byte
-
-  count-row : countIn (frameRow frame) ≡ countIn frame
-  unfolding countIn
-  count-row = simp row-byte
-
-  size-row : sizeOf (frameRow frame) ≡ sizeOf frame
-  unfolding sizeOf
-  size-row = simp row-byte
-
-  -- and so the same refusals
-  pub kind-row : (d : Desk) → kindReasons d (frameRow frame) ≡ kindReasons d frame
-  unfolding kindReasons openReasons tellReasons closeReasons routeless givenBefore cellIn wrongCount
-  kind-row d = simp (row-byte, settings-row, route-row, count-row)
 
 -- ---- a whole line, as the definitions have it
 
@@ -136,7 +122,7 @@ module _ (r : Reader) (table marks : List ℕ) (count : ℕ) (is : count ≡ r .
       pub line-kind : count / 2 ≡ size → (k : ℕ) → k ≡ kindRefusal (desk r table marks) row → k ≡ lineRefusal (desk r table marks) (lineHeld r)
       line-kind same k e =
           by-kind (desk r table marks) (take count (r .held)) framed-held (placed-held ∙ inside) (wrong-size ∙ rw (eq-eqb (count / 2) size same)) k
-          (e ∙ rw read (ap first (kind-row (frameOf (take count (r .held))) (desk r table marks))))
+          (e ∙ rw read (ap first (kind-row (desk r table marks) (frameOf (take count (r .held))))))
           ∙ line-is
 
 -- what the code found out of its place, the definitions do

@@ -1,10 +1,10 @@
--- `reading::reasons::lent_refusal` meets its contract.
+-- `reasons::kinds::lent_refusal` meets its contract.
 use native.Mathlib.Omega.{arith}
 use Rattle.settings.proofs.Depths.{settings-deep}
-use Rattle.reading.proofs.Cascade.{cells-few, short-table, short-marks, lent-enough}
+use Rattle.reasons.proofs.KindCascade.{cells-few, short-table, short-marks, lent-enough}
 use borrow.Author.Needs.{needs}
-use Rattle.reading.proofs.reasons.lent_refusal.Statement.{statement}
-use Rattle.reading.proofs.reasons.lent_refusal.Tie as tie
+use Rattle.reasons.proofs.kinds.lent_refusal.Statement.{statement}
+use Rattle.reasons.proofs.kinds.lent_refusal.Tie as tie
 
 message-count-requires : tie.Need-message-count-requires
 message-count-requires c κs = search settings-deep

@@ -1,8 +1,8 @@
--- `reading::reasons::open_refusal` meets its contract.
-use Rattle.reading.proofs.Cascade.{settings-byte, settings-refused, settings-passed}
+-- `reasons::kinds::open_refusal` meets its contract.
+use Rattle.reasons.proofs.KindCascade.{settings-byte, settings-refused, settings-passed}
 use borrow.Author.Needs.{needs}
-use Rattle.reading.proofs.reasons.open_refusal.Statement.{statement}
-use Rattle.reading.proofs.reasons.open_refusal.Tie as tie
+use Rattle.reasons.proofs.kinds.open_refusal.Statement.{statement}
+use Rattle.reasons.proofs.kinds.open_refusal.Tie as tie
 
 settings-in-requires : tie.Need-settings-in-requires
 settings-in-requires c κs = tt

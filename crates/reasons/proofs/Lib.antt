@@ -1,0 +1,3 @@
+pub mod KindCascade
+pub mod LineCascade
+pub mod Unique
