@@ -51,23 +51,23 @@ says-when k (e ⨾ s) = (
 
 -- ---- each condition
 
-either : (a b : Bool) {A B : Type 0} → (a ≡ true) ↔ A → (b ≡ true) ↔ B → ((a || b) ≡ true) ↔ (A ⊎ B)
+pub either : (a b : Bool) {A B : Type 0} → (a ≡ true) ↔ A → (b ≡ true) ↔ B → ((a || b) ≡ true) ↔ (A ⊎ B)
 either true b p q = (λ e. inl (p .0 refl), λ h. refl)
 either false b p q = (λ e. inr (q .0 e), ⊎-elim (λ h. absurd (false≢true (p .1 h))) (q .1))
 
-below : (a b : ℕ) → (ltb a b ≡ true) ↔ (a < b)
+pub below : (a b : ℕ) → (ltb a b ≡ true) ↔ (a < b)
 below a b = (ltb-true a b, lt-ltb a b)
 
-up-to : (a b : ℕ) → (leb a b ≡ true) ↔ (a ≤ b)
+pub up-to : (a b : ℕ) → (leb a b ≡ true) ↔ (a ≤ b)
 up-to a b = (leb-true a b, le-leb a b)
 
-equal : (a b : ℕ) → (eqb a b ≡ true) ↔ (a ≡ b)
+pub equal : (a b : ℕ) → (eqb a b ≡ true) ↔ (a ≡ b)
 equal a b = (eqb-true a b, eq-eqb a b)
 
-differs : (a b : ℕ) → (not (eqb a b) ≡ true) ↔ (a ≢ b)
+pub differs : (a b : ℕ) → (not (eqb a b) ≡ true) ↔ (a ≢ b)
 differs a b = (λ e. eqb-false a b (not-true (eqb a b) e), λ h. rw (ne-eqb a b h))
 
-fails : (b : Bool) → (not b ≡ true) ↔ (b ≡ false)
+pub fails : (b : Bool) → (not b ≡ true) ↔ (b ≡ false)
 fails true = (λ e. sym e, λ e. sym e)
 fails false = (λ e. refl, λ e. refl)
 

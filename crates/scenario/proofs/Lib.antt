@@ -9,5 +9,6 @@ pub mod LineNumbers
 pub mod AcceptedFiles
 pub mod WordsGiven
 pub mod Refusals
+pub mod LineTable
 pub mod EnoughLent
 pub mod Effects
