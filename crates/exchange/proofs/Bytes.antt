@@ -1,5 +1,5 @@
 -- Words held as bytes: one word more is two bytes more, and ordinary words are read again as they were.
-use Prim.Native.Nat.{ℕ, zero, suc, _+_, _/_, _%_, _<_, _≤_}
+use Prim.Native.Nat.{ℕ, zero, suc, _+_, _*_, _/_, _%_, _<_, _≤_}
 use mathlib.Core.Path.{_≡_, refl, sym, ap, _∙_}
 use mathlib.Core.List.{List, [], _∷_, _++_, map, append-assoc}
 use mathlib.Core.Bool.{Bool, true}
@@ -9,25 +9,37 @@ use lib.ListN.{length, getD, set, take, length-set}
 use lib.Seq.{take-suc, take-suc-set, take-length}
 use borrow.Author.Tests.{leb-true}
 use Rattle.rules.specs.Lists.{all, upTo}
-use Rattle.rules.specs.Words.{wordAt, plain, wordsOf, bytesOf}
+use Rattle.rules.specs.Words.{wordAt, plain, wordsOf, bytesOf, putWord}
 use Rattle.rules.proofs.Counting.{and-left, and-right, map-append}
 use Rattle.rules.proofs.Ordinary.{ordinary}
 use Rattle.rules.proofs.WordRows.{length-bytes, word-of-bytes, plain-same}
 
 -- ---- one word more
 
-pub bytes-snoc : (ws : List ℕ) (w : ℕ) → bytesOf (ws ++ (w ∷ [])) ≡ bytesOf ws ++ (w / 256 ∷ w % 256 ∷ [])
+bytes-snoc : (ws : List ℕ) (w : ℕ) → bytesOf (ws ++ (w ∷ [])) ≡ bytesOf ws ++ (w / 256 ∷ w % 256 ∷ [])
 unfolding bytesOf
 bytes-snoc [] w = refl
 bytes-snoc (a ∷ ws) w = rw (bytes-snoc ws w)
 
-pub two-more : (l : List ℕ) (k a b : ℕ) → k + 1 < length l → take (k + 2) (set (set l k a) (k + 1) b) ≡ take k l ++ (a ∷ b ∷ [])
+two-more : (l : List ℕ) (k a b : ℕ) → k + 1 < length l → take (k + 2) (set (set l k a) (k + 1) b) ≡ take k l ++ (a ∷ b ∷ [])
 two-more l k a b h =
     let two : k + 2 ≡ suc (suc k) = omega arith in
     rw (two, add-one k)
     (take-suc-set (set l k a) (suc k) b (rw length-set (omega arith))
     ∙ ap (λ (z : List ℕ). z ++ (b ∷ [])) (take-suc-set l k a (omega arith))
     ∙ append-assoc (take k l) (a ∷ []) (b ∷ []))
+
+-- a word put behind the words that stand in front
+pub put-behind : (bytes : List ℕ) (ws : List ℕ) (k w : ℕ) → 2 * k + 1 < length bytes → take (2 * k) bytes ≡ bytesOf ws
+    → take (2 * (k + 1)) (putWord bytes k w) ≡ bytesOf (ws ++ (w ∷ []))
+unfolding putWord
+put-behind bytes ws k w h e =
+    let two : 2 * (k + 1) ≡ 2 * k + 2 = omega arith in
+    rw (two, two-more bytes (2 * k) (w / 256) (w % 256) h, e) (sym (bytes-snoc ws w))
+
+pub length-put : (bytes : List ℕ) (k w : ℕ) → length (putWord bytes k w) ≡ length bytes
+unfolding putWord
+length-put bytes k w = length-set (set bytes (2 * k) (w / 256)) (2 * k + 1) (w % 256) ∙ length-set bytes (2 * k) (w / 256)
 
 -- ---- read again
 

@@ -2,7 +2,7 @@
 use Prim.Native.Nat.{ℕ, zero, suc, _+_, _*_, _-_, _/_, _%_, _^_, _<_, _≤_}
 use mathlib.Core.Path.{_≡_, refl, sym, ap, _∙_}
 use mathlib.Core.List.{List, [], _∷_}
-use mathlib.Core.Bool.{Bool, true, false, not, _&&_}
+use mathlib.Core.Bool.{Bool, true, false, not}
 use native.Mathlib.Omega.{arith}
 use native.Mathlib.Nat.{pow-suc, div-lt-iff-lt-mul}
 use native.Mathlib.Decide.{decLe}
@@ -84,16 +84,16 @@ unfolding via
 marks-via used used′ j [] m e = marks-more used used′ j [] m e
 marks-via used used′ j (i ∷ p) m e = record { marks = λ x. marks-more used used′ j (i ∷ p) m e .marks x ∙ ap not (free-swap j i p x) }
 
--- ---- who is neither the sender nor marked may receive
+-- ---- with the sender marked too, those who are not marked may receive
 
-twice : (b : Bool) → not (not b) ≡ b
-twice true = refl
-twice false = refl
-
-pub marks-receiver : (used n sender x : ℕ) (p : List ℕ) (b : Bool) → Marks used p → x < n → b ≡ (not (eqb x sender) && not (faulty used x)) → b ≡ receiver n sender p x
-unfolding free
-marks-receiver used n sender x p b m h e =
-    e ∙ ap (λ (c : Bool). not (eqb x sender) && c) (ap not (m .marks x) ∙ twice (free p x)) ∙ sym (receiver-is-free n sender p x h)
+pub marks-taken : (used taken n sender x : ℕ) (p : List ℕ) (b : Bool) → Marks used p → taken ≡ bitOr used (2 ^ sender) → x < n → b ≡ faulty taken x
+    → not b ≡ receiver n sender p x
+marks-taken used taken n sender x p b m et h e =
+    ap not (e ∙ marks-more used taken sender p m et .marks x ∙ ap not (sym (receiver-is-free n sender p x h))) ∙ twice (receiver n sender p x)
+  where
+    twice : (c : Bool) → not (not c) ≡ c
+    twice true = refl
+    twice false = refl
 
 -- ---- a mask that has no faulty node in it
 
@@ -117,11 +117,3 @@ apart faults used x none on =
 -- below 16 a shifted 1 stays within its word
 pub mark-is : (used a : ℕ) → a < 16 → bitOr used (1 * 2 ^ a % 65536) ≡ bitOr used (2 ^ a)
 mark-is used a h = ap (bitOr used) (shl-exact {a = 1} 1 a 16 (omega arith) (omega arith) ∙ (omega arith))
-
--- the sender may not receive
-pub sender-not : (a sender : ℕ) (rest : Bool) → a ≡ sender → false ≡ (not (eqb a sender) && rest)
-sender-not a sender rest e = rw (eq-eqb a sender e)
-
--- of any other node the mask says
-pub other-may : (a sender : ℕ) (rest : Bool) → (a ≡ sender → ⊥) → rest ≡ (not (eqb a sender) && rest)
-other-may a sender rest n = rw (ne-eqb a sender n)

@@ -1,5 +1,5 @@
 -- The exchange as a whole: acceptance makes the table's room and the row's size, and a summary follows its definition.
-use Prim.Native.Nat.{ℕ}
+use Prim.Native.Nat.{ℕ, _/_}
 use mathlib.Core.Path.{_≡_, sym, _∙_}
 use mathlib.Core.List.{List}
 use native.Mathlib.Omega.{arith}
@@ -53,9 +53,13 @@ module _ (s : Settings) (t row : List ℕ) (k : ℕ) (e : k ≡ exchangeRefusal 
           size = facts .row-is;
         }
 
-    -- M fits 32 bits
-    pub messages-fit : (c : ℕ) → c ≡ cells (s .n) (s .m) → Fits w32 c
-    messages-fit c ec = record { fits = omega (arith, Refusing.cells-fit s settings-pass c ec) }
+    -- the table has a word for each message
+    messages-are : length t / 2 ≡ cells (s .n) (s .m)
+    messages-are = omega (arith, facts .table-is)
+
+    -- and M fits 32 bits
+    pub messages-fit : Fits w32 (length t / 2)
+    messages-fit = record { fits = omega (arith, Refusing.cells-fit s settings-pass (length t / 2) messages-are) }
 
     -- the row that was played is the row that is due
     pub played-row : (s′ : Settings) (row′ : List ℕ) → s′ ≡ s → row′ ≡ rowOf s′ t → row′ ≡ rowAfter s t row
@@ -63,8 +67,7 @@ module _ (s : Settings) (t row : List ℕ) (k : ℕ) (e : k ≡ exchangeRefusal 
     played-row s′ row′ es er = er ∙ rw (es, ← e, eq-eqb k 0 z)
 
     -- and so is the summary
-    pub played-summary : (s′ : Settings) (class ties messages : ℕ) → s′ ≡ s
-        → class ≡ classOf (ones (s .faults)) (s .m) (s .u) → ties ≡ tieCount s′ t → messages ≡ cells (s .n) (s .m)
-        → record { refusal = 0; faults = ones (s .faults); «fault_class» = class; ties = ties; messages = messages } ≡ summaryOf s t (length row)
+    pub played-summary : (s′ : Settings) (class ties : ℕ) → s′ ≡ s → class ≡ classOf (ones (s .faults)) (s .m) (s .u) → ties ≡ tieCount s′ t
+        → record { refusal = 0; faults = ones (s .faults); «fault_class» = class; ties = ties; messages = length t / 2 } ≡ summaryOf s t (length row)
     unfolding summaryOf played
-    played-summary s′ class ties messages es ec et em = rw (← e, eq-eqb k 0 z, ec, et, es, em)
+    played-summary s′ class ties es ec et = rw (← e, eq-eqb k 0 z, ec, et, es, messages-are)

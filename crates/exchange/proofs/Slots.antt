@@ -1,12 +1,12 @@
 -- The decision row: what each node's slot holds, and what the loop over the nodes has written after each of them.
-use Prim.Native.Nat.{ℕ, suc, _+_, _*_, _/_, _%_, _^_, _<_, _≤_}
+use Prim.Native.Nat.{ℕ, suc, _+_, _*_, _^_, _<_, _≤_}
 use mathlib.Core.Path.{_≡_, refl, sym, ap, _∙_}
 use mathlib.Core.List.{List, [], _∷_, _++_, map, map-map}
 use mathlib.Core.Bool.{Bool, true, false}
 use native.Mathlib.Omega.{arith}
 use native.Mathlib.Nat.{mul-le-mul-right}
 use native.Mathlib.Numerals.{add-one}
-use lib.ListN.{length, take, length-set}
+use lib.ListN.{length, take}
 use lib.Seq.{take-length}
 use lib.Bits.{bitOr}
 use mir.Syntax.{w32}
@@ -44,7 +44,7 @@ module _ (s : Settings) (t : List ℕ) (i : ℕ) (b : Bool) (eb : b ≡ faulty (
 
   -- a fault-free receiver decides on the route of its own number alone, with m rounds left
   pub slot-decided : (d : Decided) (left : ℕ) (row : List ℕ) → b ≡ false → (i ≡ s .sender → ⊥) → left ≡ s .m
-      → d ≡ byz s t left (back (i ∷ row) 1) → d ≡ slot s t i
+      → d ≡ byz s t left (back (i ∷ row) 1) → record { word = d .word; ties = d .ties } ≡ slot s t i
   unfolding slot decision back
   slot-decided d left row h n el ed = ed ∙ rw (el, ← eb, h, ne-eqb i (s .sender) n)
 
@@ -96,17 +96,13 @@ module _ (s : Settings) (t row : List ℕ) (ties i : ℕ) (g : Given s t) (p : W
   -- one more slot is put behind the others
   pub written-more : (d : Decided) (at : ℕ) (row′ : List ℕ) → i < s .n → d ≡ slot s t i → at ≡ i → row′ ≡ putWord row at (d .word)
       → Written s t row′ (ties + d .ties) (i + 1)
-  unfolding putWord
   written-more d at row′ below ed ea er =
       let W : ℕ → ℕ = λ k. slot s t k .word in
       let T : ℕ → ℕ = λ k. slot s t k .ties in
-      let two : 2 * (i + 1) ≡ 2 * i + 2 = omega arith in
       record {
         passed = omega arith;
-        size = ap length er ∙ simp length-set (p .size);
-        bytes =
-            rw (two, er, ea, Bytes.two-more row (2 * i) (d .word / 256) (d .word % 256) (omega (arith, p .size)), p .bytes, add-one i, map-upTo W i, ed)
-            (sym (Bytes.bytes-snoc (map W (upTo i)) (W i)));
+        size = ap length er ∙ Bytes.length-put row at (d .word) ∙ p .size;
+        bytes = rw (er, ea, ed) (Bytes.put-behind row (map W (upTo i)) i (W i) (omega (arith, p .size)) (p .bytes) ∙ rw (add-one i, map-upTo W i));
         tied = rw (p .tied, add-one i, map-upTo T i, ed) (sym (Ties.total-snoc (map T (upTo i)) (T i)));
       }
 

@@ -8,16 +8,16 @@ use Rattle.exchange.proofs.exchange.Reads as exchange
 use Rattle.exchange.proofs.exchange.Kinds as exchange-kinds
 use Rattle.exchange.proofs.judging.refusal.Reads as refusal
 use Rattle.exchange.proofs.judging.refusal.Kinds as refusal-kinds
-use Rattle.exchange.proofs.told.is_faulty.Reads as is-faulty
-use Rattle.exchange.proofs.told.is_faulty.Kinds as is-faulty-kinds
+use Rattle.exchange.proofs.masks.in_mask.Reads as in-mask
+use Rattle.exchange.proofs.masks.in_mask.Kinds as in-mask-kinds
 use Rattle.exchange.proofs.told.delivered.Reads as delivered
 use Rattle.exchange.proofs.told.delivered.Kinds as delivered-kinds
 use Rattle.exchange.proofs.told.arrives.Reads as arrives
 use Rattle.exchange.proofs.told.arrives.Kinds as arrives-kinds
-use Rattle.exchange.proofs.deciding.marked.Reads as marked
-use Rattle.exchange.proofs.deciding.marked.Kinds as marked-kinds
-use Rattle.exchange.proofs.deciding.may_receive.Reads as may-receive
-use Rattle.exchange.proofs.deciding.may_receive.Kinds as may-receive-kinds
+use Rattle.exchange.proofs.told.relayed.Reads as relayed
+use Rattle.exchange.proofs.told.relayed.Kinds as relayed-kinds
+use Rattle.exchange.proofs.masks.marked.Reads as marked
+use Rattle.exchange.proofs.masks.marked.Kinds as marked-kinds
 use Rattle.exchange.proofs.deciding.decide.Reads as decide
 use Rattle.exchange.proofs.deciding.decide.Kinds as decide-kinds
 use Rattle.exchange.proofs.judging.narrowed.Reads as narrowed
@@ -43,8 +43,8 @@ one-row κs a x y s t p q = p .1 ∙ sym (q .1)
 
 -- ---- the functions of the inner rooms
 
-pub one-is-faulty : OneResult 0 is-faulty-kinds.ps is-faulty-kinds.r is-faulty.Post
-one-is-faulty κs a x y s t p q = p ∙ sym q
+pub one-in-mask : OneResult 0 in-mask-kinds.ps in-mask-kinds.r in-mask.Post
+one-in-mask κs a x y s t p q = p ∙ sym q
 
 pub one-delivered : OneResult 1 delivered-kinds.ps delivered-kinds.r delivered.Post
 one-delivered κs a x y s t p q = p ∙ sym q
@@ -52,11 +52,11 @@ one-delivered κs a x y s t p q = p ∙ sym q
 pub one-arrives : OneResult 1 arrives-kinds.ps arrives-kinds.r arrives.Post
 one-arrives κs a x y s t p q = p ∙ sym q
 
+pub one-relayed : OneResult 1 relayed-kinds.ps relayed-kinds.r relayed.Post
+one-relayed κs a x y s t p q = p ∙ sym q
+
 pub one-marked : OneResult 0 marked-kinds.ps marked-kinds.r marked.Post
 one-marked κs a x y s t p q = p ∙ sym q
-
-pub one-may-receive : OneResult 0 may-receive-kinds.ps may-receive-kinds.r may-receive.Post
-one-may-receive κs a x y s t p q = p ∙ sym q
 
 pub one-decide : OneResult 1 decide-kinds.ps decide-kinds.r decide.Post
 one-decide κs a x y s t p q = p ∙ sym q

@@ -1,5 +1,5 @@
 -- The vote over what was gathered is the decision.
-use Prim.Native.Nat.{ℕ, suc, _+_, _-_, _≤_}
+use Prim.Native.Nat.{ℕ, suc, _+_, _*_, _-_, _≤_}
 use mathlib.Core.Path.{_≡_, sym, ap, _∙_}
 use mathlib.Core.List.{List}
 use mathlib.Core.Bool.{Bool, true, false}
@@ -7,7 +7,7 @@ use native.Mathlib.Omega.{arith}
 use native.Mathlib.Nat.{add-zero}
 use lib.ListN.{length, take}
 use lib.Seq.{length-take-le}
-use mir.Syntax.{w32}
+use mir.Syntax.{w32, w64}
 use mir.Val.{Fits}
 use Rattle.rules.specs.Lists.{bit}
 use Rattle.rules.specs.Words.{wordsOf}
@@ -28,29 +28,32 @@ use Rattle.exchange.specs.declared.deciding.Entries as E
 use Rattle.exchange.proofs.Bytes
 use Rattle.exchange.proofs.Ties
 
--- the part of the bytes that is filled
-pub part-length : (s : Settings) (t p : List ℕ) (left : ℕ) (e : E.Entries) → Gathered s t p left e → e .len ≡ length (take (e .len) (e .bytes))
-part-length s t p left e g = sym (length-take-le (e .len) (e .bytes) (omega (arith, g .size, g .fits)))
+-- the length of the part of the bytes that is filled
+pub part-fits : (s : Settings) (t p : List ℕ) (left : ℕ) (bytes : List ℕ) (e : E.Entries) → Gathered s t p left bytes e → Fits w64 (2 * e .count)
+part-fits s t p left bytes e g = record { fits = omega (arith, g .fits) }
 
-module _ (s : Settings) (t p : List ℕ) (left : ℕ) (e : E.Entries) (g : Gathered s t p left e) (value : s .value ≤ 65000) where
+pub part-length : (s : Settings) (t p : List ℕ) (left : ℕ) (bytes : List ℕ) (e : E.Entries) → Gathered s t p left bytes e → 2 * e .count ≡ length (take (2 * e .count) bytes)
+part-length s t p left bytes e g = sym (length-take-le (2 * e .count) bytes (omega (arith, g .size, g .fits)))
+
+module _ (s : Settings) (t p : List ℕ) (left : ℕ) (bytes : List ℕ) (e : E.Entries) (g : Gathered s t p left bytes e) (value : s .value ≤ 65000) where
   -- the list that is voted over is the entries: none of their words is reserved, so each is read as it was
-  voted-over : wordsOf (take (e .len) (e .bytes)) ≡ entries s t (left - 1) p
+  voted-over : wordsOf (take (2 * e .count) bytes) ≡ entries s t (left - 1) p
   voted-over = ap wordsOf (g .words) ∙ Bytes.words-again (entries s t (left - 1) p) (entries-ordinary s t value (left - 1) p (byz-ordinary s t value (left - 1)))
 
 -- a decision is its word and its ties
 same-decided : (d : Decided) (w k : ℕ) → w ≡ d .word → k ≡ d .ties → record { word = w; ties = k } ≡ d
 same-decided d w k ew ek = rw (ew, ek)
 
-module _ (s : Settings) (t : List ℕ) (r : R.Route) (used left a m : ℕ) (e : E.Entries) (v : Outcome)
-    (p : Ready s t r used left) (g : Gathered s t (held r) left e)
-    (ea : a ≡ s .n) (em : m ≡ s .m) (ev : v ≡ vote (a - r .len - m) (wordsOf (take (e .len) (e .bytes)))) where
+module _ (s : Settings) (t : List ℕ) (r : R.Route) (used left a m : ℕ) (bytes : List ℕ) (e : E.Entries) (v : Outcome)
+    (p : Ready s t r used left) (g : Gathered s t (held r) left bytes e)
+    (ea : a ≡ s .n) (em : m ≡ s .m) (ev : v ≡ vote (a - r .len - m) (wordsOf (take (2 * e .count) bytes))) where
   -- n-1-m at the level of the route
   level-threshold : a - r .len - m ≡ threshold s (held r)
   unfolding threshold nodesAt
   level-threshold = omega (arith, ea, em, length-back (r .nodes) (r .len), p .short, p .some, p .more, p .given .judged)
 
   vote-is : v ≡ vote (threshold s (held r)) (entries s t (left - 1) (held r))
-  vote-is = ev ∙ rw (level-threshold, voted-over s t (held r) left e g (p .given .judged .value-plain))
+  vote-is = ev ∙ rw (level-threshold, voted-over s t (held r) left bytes e g (p .given .judged .value-plain))
 
   again : suc (left - 1) ≡ left
   again = omega (arith, p .more)
@@ -73,9 +76,9 @@ module _ (s : Settings) (t : List ℕ) (r : R.Route) (used left a m : ℕ) (e : 
   judged-none h = same-decided (byz s t left (held r)) (v .word) (e .ties) word-is (sym (add-zero (e .ties)) ∙ ap (λ (b : Bool). e .ties + bit b) (sym h) ∙ ties-are)
 
 -- one tie more fits
-pub tie-fits : (s : Settings) (t : List ℕ) (r : R.Route) (used left : ℕ) (e : E.Entries) → Ready s t r used left
-    → Gathered s t (held r) left e → Fits w32 (e .ties + 1)
+pub tie-fits : (s : Settings) (t : List ℕ) (r : R.Route) (used left : ℕ) (bytes : List ℕ) (e : E.Entries) → Ready s t r used left
+    → Gathered s t (held r) left bytes e → Fits w32 (e .ties + 1)
 unfolding receivers
-tie-fits s t r used left e p g =
+tie-fits s t r used left bytes e p g =
     let le : left - 1 ≤ s .m = omega (arith, p .short, p .some) in
     record { fits = omega (arith, g .ties, Ties.gathered-ties s t (p .given .judged) (left - 1) le (held r) (s .n) (omega arith)) }

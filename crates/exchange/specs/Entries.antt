@@ -1,5 +1,5 @@
 -- What is gathered for a vote.
-use Prim.Native.Nat.{ℕ, _-_, _≤_}
+use Prim.Native.Nat.{ℕ, _*_, _-_, _≤_}
 use mathlib.Core.Path.{_≡_}
 use mathlib.Core.List.{List, map}
 use lib.ListN.{length, take}
@@ -10,9 +10,9 @@ use Rattle.rules.specs.Decision.{via, byz, entries}
 use Rattle.rules.specs.declared.Settings.{Settings}
 use Rattle.exchange.specs.declared.deciding.Entries as E
 
--- the entries' words as bytes, and the ties met on the way to them
-pub record Gathered (s : Settings) (table p : List ℕ) (left : ℕ) (e : E.Entries) : Type 0 where
-  pub size : length (e .bytes) ≡ 28
-  pub fits : e .len ≤ 28
-  pub words : take (e .len) (e .bytes) ≡ bytesOf (entries s table (left - 1) p)
+-- the entries' words, as bytes at the front of what was lent for them, and the ties met on the way to them
+pub record Gathered (s : Settings) (table p : List ℕ) (left : ℕ) (bytes : List ℕ) (e : E.Entries) : Type 0 where
+  pub size : length bytes ≡ 28
+  pub fits : 2 * e .count ≤ 28
+  pub words : take (2 * e .count) bytes ≡ bytesOf (entries s table (left - 1) p)
   pub ties : e .ties ≡ total (map (λ j. byz s table (left - 1) (via j p) .ties) (receivers (s .n) (s .sender) p))

@@ -3,10 +3,10 @@
 use Prim.Native.Nat.{ℕ, _+_, _*_, _≤_, _<_}
 use mathlib.Core.Path.{_≡_}
 use mathlib.Core.Bool.{true, not}
-use mathlib.Core.List.{List}
+use mathlib.Core.List.{List, []}
 use lib.ListN.{length}
 use Rattle.rules.specs.Words.{faulty}
-use Rattle.rules.specs.Routes.{held, free, isPath, isRoute}
+use Rattle.rules.specs.Routes.{held, free, receiver, isPath, isRoute}
 use Rattle.rules.specs.Cells.{cell}
 use Rattle.rules.proofs.Accepted.{SettingsAccepted}
 use Rattle.rules.specs.declared.Settings.{Settings}
@@ -24,6 +24,11 @@ pub record Told (s : Settings) (table : List ℕ) (r : R.Route) : Type 0 where
   pub short : r .len ≤ s .m + 1
   pub path : isPath (s .n) (s .sender) (held r) ≡ true
 
+-- a node that the sender tells
+pub record Sent (s : Settings) (table : List ℕ) (to : ℕ) : Type 0 where
+  pub given : Given s table
+  pub node : receiver (s .n) (s .sender) [] to ≡ true
+
 -- a word whose set bits are the numbers of a route
 pub record Marks (used : ℕ) (p : List ℕ) : Type 0 where
   pub marks : (x : ℕ) → faulty used x ≡ not (free p x)
@@ -33,6 +38,12 @@ pub record Marked (s : Settings) (table : List ℕ) (r : R.Route) (used : ℕ) :
   pub told : Told s table r
   pub marks : Marks used (held r)
 
+-- and a relay that may be put before its receiver
+pub record Relayed (s : Settings) (table : List ℕ) (r : R.Route) (used relay : ℕ) : Type 0 where
+  pub marked : Marked s table r used
+  pub room : r .len ≤ s .m
+  pub next : receiver (s .n) (s .sender) (held r) relay ≡ true
+
 -- a route on which its receiver decides with rounds left
 pub record Ready (s : Settings) (table : List ℕ) (r : R.Route) (used left : ℕ) : Type 0 where
   pub given : Given s table
@@ -41,6 +52,11 @@ pub record Ready (s : Settings) (table : List ℕ) (r : R.Route) (used left : �
   pub short : r .len + left ≤ s .m + 1
   pub path : isPath (s .n) (s .sender) (held r) ≡ true
   pub marks : Marks used (held r)
+
+-- and room for its entries: of 15 nodes there are 14 of them at the most
+pub record Gatherable (s : Settings) (table : List ℕ) (r : R.Route) (used left : ℕ) (bytes : List ℕ) : Type 0 where
+  pub ready : Ready s table r used left
+  pub size : length bytes ≡ 28
 
 -- a node that has a slot
 pub record Slotted (s : Settings) (table : List ℕ) (i : ℕ) : Type 0 where

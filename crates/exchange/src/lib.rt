@@ -5,6 +5,7 @@ ghost use lib.ListN.{length};
 ghost use Rattle.rules.specs.Exchange.{summaryOf, rowAfter, classOf};
 
 mod judging; // what is turned away, and judged settings
+mod masks; // masks of nodes
 mod told; // the word delivered on a route
 mod deciding; // a receiver's entries and their vote
 mod row; // the decision row
@@ -14,7 +15,6 @@ pub use judging::refusal;
 use row::play;
 use rules::Settings;
 use rules::Summary;
-use settings::message_count;
 
 // 1 if f ≤ m, 2 if m < f ≤ u, 3 if f > u.
 fn class_of(f: u32, m: u32, u: u32) -> u32
@@ -47,7 +47,8 @@ pub fn exchange(s: Settings, table: &[u8], row: &mut [u8]) -> Summary
     let ties = play(narrowed(s), table, row);
     let faults = u16::count_ones(s.faults);
     let fault_class = class_of(faults, s.m, s.u);
-    let messages = message_count(s.n, s.m) as u32;
+    // a table that is accepted has a word for each message
+    let messages = (table.len() / 2) as u32;
     Summary {
         refusal: 0,
         faults,

@@ -1,13 +1,12 @@
 // The decision row.
 ghost use mathlib.Core.Path.{_≡_};
-ghost use Prim.Native.Nat.{_<_};
 ghost use Rattle.rules.specs.Exchange.{slot, rowOf, tieCount};
 ghost use Rattle.exchange.specs.Judged.{settingsOf};
 ghost use Rattle.exchange.specs.Ready.{Slotted, Played};
 use crate::deciding::decide;
-use crate::deciding::marked;
 use crate::judging::Judged;
-use crate::told::is_faulty;
+use crate::masks::in_mask;
+use crate::masks::marked;
 use rules::Decided;
 use rules::Route;
 use words::put_word;
@@ -18,7 +17,7 @@ fn slot(s: Judged, table: &[u8], i: u8) -> Decided
     requires { ⌜ Slotted (settingsOf s) (now table) i ⌝ }
     ensures { λ d. ⌜ d ≡ slot (settingsOf s) (now (table .entry)) i ⌝ }
 {
-    if is_faulty(s.faults, i) {
+    if in_mask(s.faults, i) {
         return Decided {
             word: 65535,
             ties: 0,
@@ -34,7 +33,12 @@ fn slot(s: Judged, table: &[u8], i: u8) -> Decided
         nodes: [i, 0, 0, 0],
         len: 1,
     };
-    decide(s, table, r, marked(0, i), wide(s.m))
+    // read field by field, as it was written: one read of both would wait for the two writes
+    let d = decide(s, table, r, marked(0, i), wide(s.m));
+    Decided {
+        word: d.word,
+        ties: d.ties,
+    }
 }
 
 // Writes every slot's word into the row, and returns the ties met.

@@ -1,25 +1,19 @@
 // The word delivered on a route.
 ghost use mathlib.Core.Path.{_≡_};
-ghost use Prim.Native.Nat.{_<_};
-ghost use Rattle.rules.specs.Words.{faulty};
+ghost use mathlib.Core.List.{[], _∷_};
 ghost use Rattle.rules.specs.Routes.{held};
+ghost use Rattle.rules.specs.Decision.{via};
 ghost use Rattle.rules.specs.Delivered.{delivered};
 ghost use Rattle.exchange.specs.Judged.{settingsOf};
-ghost use Rattle.exchange.specs.Ready.{Told, Marked};
+ghost use Rattle.exchange.specs.Ready.{Told, Sent, Marked, Relayed};
 use crate::judging::Judged;
+use crate::masks::in_mask;
 use routes::cell_at;
+use routes::extended;
 use routes::shortened;
 use routes::teller_of;
 use rules::Route;
 use words::plain_at;
-
-// Whether a node is faulty: its bit of the fault word.
-pub fn is_faulty(faults: u16, node: u8) -> bool
-    requires { ⌜ node < 16 ⌝ }
-    ensures { λ b. ⌜ b ≡ faulty faults node ⌝ }
-{
-    (faults >> node) % 2 == 1
-}
 
 // A faulty teller tells what the cell holds. A fault-free one passes on the word that it was itself told, which stands on the
 // route without its last number; so the cell of a fault-free teller is never read. The sender, told by no one, has its value.
@@ -27,7 +21,7 @@ pub fn delivered(s: Judged, table: &[u8], r: Route) -> u16
     requires { ⌜ Told (settingsOf s) (now table) r ⌝ }
     ensures { λ w. ⌜ w ≡ delivered (settingsOf s) (now (table .entry)) (held r) ⌝ }
 {
-    if is_faulty(s.faults, teller_of(r, s.sender)) {
+    if in_mask(s.faults, teller_of(r, s.sender)) {
         return plain_at(table, cell_at(s.n, s.sender, r));
     }
     let heard = shortened(r);
@@ -37,8 +31,23 @@ pub fn delivered(s: Judged, table: &[u8], r: Route) -> u16
     delivered(s, table, heard)
 }
 
-// The same word, by the mask of the numbers on the route: where none of them is faulty, every relay passed on what it was told,
-// and the word is what the sender told the first of them; a fault-free sender told its value.
+// What the sender told a node: its value if it is fault-free, and else what that node's cell holds.
+fn sent(s: Judged, table: &[u8], to: u8) -> u16
+    requires { ⌜ Sent (settingsOf s) (now table) to ⌝ }
+    ensures { λ w. ⌜ w ≡ delivered (settingsOf s) (now (table .entry)) (to ∷ []) ⌝ }
+{
+    if !in_mask(s.faults, s.sender) {
+        return s.value;
+    }
+    let r = Route {
+        nodes: [to, 0, 0, 0],
+        len: 1,
+    };
+    plain_at(table, cell_at(s.n, s.sender, r))
+}
+
+// The word delivered on a route, by the mask of its numbers: where none of them is faulty, every relay passed on what it was told,
+// and that is what the sender told the first of them.
 pub fn arrives(s: Judged, table: &[u8], r: Route, used: u16) -> u16
     requires { ⌜ Marked (settingsOf s) (now table) r used ⌝ }
     ensures { λ w. ⌜ w ≡ delivered (settingsOf s) (now (table .entry)) (held r) ⌝ }
@@ -46,9 +55,21 @@ pub fn arrives(s: Judged, table: &[u8], r: Route, used: u16) -> u16
     if s.faults & used != 0 {
         return delivered(s, table, r);
     }
-    if !is_faulty(s.faults, s.sender) {
-        return s.value;
+    sent(s, table, r.nodes[0])
+}
+
+// The same on the route with one relay more: a faulty relay tells what its cell holds. The longer route is made only where a
+// number on it is faulty.
+pub fn relayed(s: Judged, table: &[u8], r: Route, used: u16, relay: u8) -> u16
+    requires { ⌜ Relayed (settingsOf s) (now table) r used relay ⌝ }
+    ensures { λ w. ⌜ w ≡ delivered (settingsOf s) (now (table .entry)) (via relay (held r)) ⌝ }
+{
+    if in_mask(s.faults, relay) {
+        return plain_at(table, cell_at(s.n, s.sender, extended(r, relay)));
     }
-    let nodes = r.nodes;
-    delivered(s, table, Route { nodes, len: 1 })
+    if s.faults & used != 0 {
+        return delivered(s, table, extended(r, relay));
+    }
+    let first = if r.len == 1 { relay } else { r.nodes[0] };
+    sent(s, table, first)
 }

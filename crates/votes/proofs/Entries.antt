@@ -1,6 +1,6 @@
 -- The entries of a list of bytes are its words, read one after another; and what a loop that counts among them has so far.
 use mathlib.Core.Path.{_≡_, refl, sym, ap, _∙_}
-use mathlib.Core.Bool.{Bool, true, false}
+use mathlib.Core.Bool.{Bool, true, false, not}
 use mathlib.Core.List.{List, [], _∷_, _++_, map}
 use Prim.Native.Nat.{ℕ, zero, suc, _+_, _*_, _-_, _/_, _≤_, _<_}
 use native.Mathlib.Omega.{arith}
@@ -8,11 +8,13 @@ use native.Mathlib.Numerals.{add-one}
 use lib.ListN.{length, drop, length-drop}
 use lib.Seq.{getD-drop}
 use lib.Dec.{eqb, leb}
-use borrow.Author.Tests.{eq-eqb, ne-eqb, le-leb, lt-leb}
+use borrow.Author.Tests.{eq-eqb, ne-eqb, le-leb, lt-leb, not-true, not-false}
 use Rattle.rules.specs.Lists.{bit, count, upTo}
 use Rattle.rules.specs.Words.{wordAt, plain, wordsOf}
+use Rattle.votes.specs.Needs.{Candidate}
 use Rattle.rules.proofs.Counting.{bit-le-one, map-append, count-append}
-use Rattle.rules.proofs.WordRows.{words-count}
+use Rattle.rules.proofs.Ordinary.{plain-ordinary}
+use Rattle.rules.proofs.WordRows.{plain-reserved, plain-same, words-count}
 
 abbrev pub entry : List ℕ → ℕ → ℕ
 entry bytes i = plain (wordAt bytes i)
@@ -73,6 +75,25 @@ count-from P bytes i h =
     rw (← all-firsts bytes (i + left) (omega arith), ← all-firsts (drop (2 * i) bytes) left (omega (arith, length-drop (2 * i) bytes)))
     (count-after P bytes i left)
 
+-- no entry is reserved
+pub candidate-plain : (bytes : List ℕ) (place word spare : ℕ) → Candidate bytes place word spare → word ≤ 65000
+candidate-plain bytes place word spare c = omega (arith, c .stands, plain-ordinary (wordAt bytes place))
+
+-- ---- one entry compared with a word that is not reserved
+
+module _ (word w stands : ℕ) (small : word ≤ 65000) (read : w ≡ stands) where
+  -- as it stands
+  pub same-entry : w ≡ word → true ≡ eqb word (plain stands)
+  same-entry e = sym (eq-eqb word (plain stands) (sym e ∙ read ∙ sym (plain-same stands (omega arith))))
+
+  -- a reserved one counts as the default
+  pub reserved-entry : 65000 < w → eqb word 0 ≡ eqb word (plain stands)
+  reserved-entry h = rw (plain-reserved stands (omega arith))
+
+  -- another counts as it stands
+  pub other-entry : (w ≡ word → ⊥) → w ≤ 65000 → false ≡ eqb word (plain stands)
+  other-entry n h = sym (ne-eqb word (plain stands) (λ e. n (read ∙ sym (e ∙ plain-same stands (omega arith)))))
+
 -- an entry that equals a word is counted, another is not
 module _ (bytes : List ℕ) (word i w : ℕ) (read : w ≡ entry bytes i) where
   pub hit : w ≡ word → count (eqb word) (firsts bytes (i + 1)) ≡ count (eqb word) (firsts bytes i) + 1
@@ -101,33 +122,44 @@ module _ (bytes : List ℕ) (word equal i w equal′ : ℕ) (so-far : Counted by
 pub counted-all : (bytes : List ℕ) (word equal i : ℕ) → Counted bytes word equal i → length bytes / 2 ≤ i → equal ≡ count (eqb word) (wordsOf bytes)
 counted-all bytes word equal i so-far h = so-far .count-is ∙ ap (count (eqb word)) (all-firsts bytes i (omega (arith, so-far .passed)))
 
--- ---- counting those that do not, up to a spare
+-- ---- counting those that do not equal the entry in a place, up to a spare; those before the place among them
 
-pub record Missed (bytes : List ℕ) (word spare missed i : ℕ) : Type 0 where
+pub record Missed (bytes : List ℕ) (place word spare missed i : ℕ) : Type 0 where
   pub passed : i ≤ length bytes / 2
-  pub both : missed + count (eqb word) (firsts bytes i) ≡ i
+  pub both : missed + count (eqb word) (firsts bytes i) ≡ i + count (eqb word) (firsts bytes place)
   pub spared : missed ≤ spare
 
-pub missed-none : (bytes : List ℕ) (word spare : ℕ) → Missed bytes word spare 0 0
-missed-none bytes word spare = record { passed = omega arith; both = omega (arith, count-none (eqb word) bytes); spared = omega arith }
+-- the entry itself equals the word
+pub missed-before : (bytes : List ℕ) (place word spare : ℕ) → Candidate bytes place word spare → Missed bytes place word spare place (place + 1)
+missed-before bytes place word spare c =
+    record { passed = omega (arith, c .inside); both = omega (arith, hit bytes word place word (c .stands) refl); spared = c .early }
 
-module _ (bytes : List ℕ) (word spare missed i w : ℕ) (so-far : Missed bytes word spare missed i) (more : i < length bytes / 2) (read : w ≡ entry bytes i) where
-  pub missed-hit : (missed′ : ℕ) → w ≡ word → missed′ ≡ missed → Missed bytes word spare missed′ (i + 1)
-  missed-hit missed′ e e′ = record { passed = omega arith; both = omega (arith, hit bytes word i w read e, so-far .both); spared = omega (arith, so-far .spared) }
+module _ (bytes : List ℕ) (place word spare missed i : ℕ) (c : Candidate bytes place word spare) (so-far : Missed bytes place word spare missed i) where
+  -- the word's count from the place on
+  from-place : count (eqb word) (wordsOf bytes) ≡ count (eqb word) (firsts bytes place) + count (eqb word) (wordsOf (drop (2 * place) bytes))
+  from-place = count-from (eqb word) bytes place (omega (arith, c .inside))
 
-  pub missed-more : (missed′ : ℕ) → (w ≡ word → ⊥) → (missed ≡ spare → ⊥) → missed′ ≡ missed + 1 → Missed bytes word spare missed′ (i + 1)
-  missed-more missed′ n s e′ =
-      record { passed = omega arith; both = omega (arith, miss bytes word i w read n, so-far .both); spared = omega (arith, so-far .spared) }
+  -- no more than are spared
+  pub missed-few : length bytes / 2 ≤ i → true ≡ leb (length (wordsOf bytes)) (count (eqb word) (wordsOf (drop (2 * place) bytes)) + spare)
+  missed-few h =
+      let all : firsts bytes i ≡ wordsOf bytes = all-firsts bytes i (omega (arith, so-far .passed)) in
+      sym (le-leb (length (wordsOf bytes)) (count (eqb word) (wordsOf (drop (2 * place) bytes)) + spare)
+      (omega (arith, rw all at (so-far .both), so-far .passed, so-far .spared, from-place, words-count bytes)))
 
-  -- one too many
-  pub missed-over : (w ≡ word → ⊥) → missed ≡ spare → false ≡ leb (length (wordsOf bytes)) (count (eqb word) (wordsOf bytes) + spare)
-  missed-over n s =
-      sym (lt-leb (length (wordsOf bytes)) (count (eqb word) (wordsOf bytes) + spare)
-      (omega (arith, entries-rest (eqb word) bytes (i + 1) (omega arith), miss bytes word i w read n, so-far .both, words-count bytes)))
+  module _ (b : Bool) (more : i < length bytes / 2) (read : b ≡ eqb word (entry bytes i)) where
+    -- one entry passed, and one counted if it equals the word
+    passed-one : (d : Bool) → b ≡ d → count (eqb word) (firsts bytes (i + 1)) ≡ count (eqb word) (firsts bytes i) + bit d
+    passed-one d e = count-next (eqb word) bytes i ∙ rw (← read, e)
 
--- no more than are spared
-pub missed-few : (bytes : List ℕ) (word spare missed i : ℕ) → Missed bytes word spare missed i → length bytes / 2 ≤ i →
-    true ≡ leb (length (wordsOf bytes)) (count (eqb word) (wordsOf bytes) + spare)
-missed-few bytes word spare missed i so-far h =
-    let all : firsts bytes i ≡ wordsOf bytes = all-firsts bytes i (omega (arith, so-far .passed)) in
-    sym (le-leb (length (wordsOf bytes)) (count (eqb word) (wordsOf bytes) + spare) (omega (arith, rw all at (so-far .both), so-far .spared, words-count bytes)))
+    pub missed-hit : (missed′ : ℕ) → not b ≡ false → missed′ ≡ missed → Missed bytes place word spare missed′ (i + 1)
+    missed-hit missed′ h e′ = record { passed = omega arith; both = omega (arith, passed-one true (not-false b h), so-far .both); spared = omega (arith, so-far .spared) }
+
+    pub missed-more : (missed′ : ℕ) → not b ≡ true → (missed ≡ spare → ⊥) → missed′ ≡ missed + 1 → Missed bytes place word spare missed′ (i + 1)
+    missed-more missed′ h s e′ =
+        record { passed = omega arith; both = omega (arith, passed-one false (not-true b h), so-far .both); spared = omega (arith, so-far .spared) }
+
+    -- one too many
+    pub missed-over : not b ≡ true → missed ≡ spare → false ≡ leb (length (wordsOf bytes)) (count (eqb word) (wordsOf (drop (2 * place) bytes)) + spare)
+    missed-over h s =
+        sym (lt-leb (length (wordsOf bytes)) (count (eqb word) (wordsOf (drop (2 * place) bytes)) + spare)
+        (omega (arith, entries-rest (eqb word) bytes (i + 1) (omega arith), passed-one false (not-true b h), so-far .both, from-place, words-count bytes)))

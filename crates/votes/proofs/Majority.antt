@@ -4,7 +4,7 @@ use mathlib.Core.Bool.{Bool, true, false}
 use mathlib.Core.List.{List}
 use Prim.Native.Nat.{ℕ, _+_, _*_, _-_, _/_, _≤_, _<_}
 use native.Mathlib.Omega.{arith}
-use lib.ListN.{length}
+use lib.ListN.{length, drop}
 use lib.Dec.{eqb, leb}
 use borrow.Author.Tests.{eqb-true, leb-true, leb-false}
 use Rattle.rules.specs.Lists.{count, upTo}
@@ -14,8 +14,8 @@ use Rattle.rules.specs.declared.Outcome.{Outcome}
 use Rattle.rules.proofs.Counting.{by-test}
 use Rattle.rules.proofs.WordRows.{words-count}
 use Rattle.rules.proofs.Voting.{Reaches, vote-none, vote-only, vote-wins, vote-above}
-use Rattle.votes.specs.Needs.{AboveHalf}
-use Rattle.votes.proofs.Entries.{entry, firsts, entries-rest, count-next}
+use Rattle.votes.specs.Needs.{Candidate, AboveHalf}
+use Rattle.votes.proofs.Entries.{entry, firsts, entries-rest, count-from, count-next}
 
 -- no value that reaches the threshold stands among the first i entries
 pub record Unled (q : ℕ) (bytes : List ℕ) (spare i : ℕ) : Type 0 where
@@ -31,22 +31,30 @@ module _ (q : ℕ) (bytes : List ℕ) (spare : ℕ) (half : AboveHalf q (wordsOf
   pub in-list : (i : ℕ) → i ≤ spare → 2 * i + 1 < length bytes
   in-list i h = omega (arith, half .rest, half .most, words-count bytes)
 
-  module _ (i w : ℕ) (b : Bool) (so-far : Unled q bytes spare i) (read : w ≡ entry bytes i) (found : b ≡ leb (length (wordsOf bytes)) (count (eqb w) (wordsOf bytes) + spare)) where
+  pub candidate : (i w : ℕ) → i ≤ spare → w ≡ entry bytes i → Candidate bytes i w spare
+  candidate i w h read = record { inside = in-list i h; stands = read; early = h }
+
+  module _ (i w : ℕ) (b : Bool) (so-far : Unled q bytes spare i) (early : i ≤ spare) (read : w ≡ entry bytes i)
+      (found : b ≡ leb (length (wordsOf bytes)) (count (eqb w) (wordsOf (drop (2 * i) bytes)) + spare)) where
+    from-here : count (eqb w) (wordsOf bytes) ≡ count (eqb w) (firsts bytes i) + count (eqb w) (wordsOf (drop (2 * i) bytes))
+    from-here = count-from (eqb w) bytes i (omega (arith, in-list i early))
+
     -- an entry that all but the spare ones equal wins
     pub led : b ≡ true → _≡_ {A = Outcome} (record { word = w; tie = false }) (vote q (wordsOf bytes))
     led e =
-        let reached : Reaches q (wordsOf bytes) w = omega (arith, half .rest, leb-true (length (wordsOf bytes)) (count (eqb w) (wordsOf bytes) + spare) (sym found ∙ e)) in
+        let many = leb-true (length (wordsOf bytes)) (count (eqb w) (wordsOf (drop (2 * i) bytes)) + spare) (sym found ∙ e) in
+        let reached : Reaches q (wordsOf bytes) w = omega (arith, half .rest, many, from-here) in
         let positive : 1 ≤ q = omega (arith, half .most) in
         let short : length (wordsOf bytes) < q + q = omega (arith, half .rest, half .most) in
         let wins : (v : ℕ) → Reaches q (wordsOf bytes) v → vote q (wordsOf bytes) .word ≡ v = λ v r. vote-wins q (wordsOf bytes) v positive short r in
         sym (vote-only q (wordsOf bytes) w positive (record { reached = reached; only = λ v r. sym (wins v r) ∙ wins w reached }))
 
-    -- another is no value that reaches the threshold
-    pub unled-next : i ≤ spare → b ≡ false → Unled q bytes spare (i + 1)
-    unled-next h e =
-        let below = leb-false (length (wordsOf bytes)) (count (eqb w) (wordsOf bytes) + spare) (sym found ∙ e) in
+    -- another is no value that reaches the threshold: one that does did not stand before
+    pub unled-next : b ≡ false → Unled q bytes spare (i + 1)
+    unled-next e =
+        let below = leb-false (length (wordsOf bytes)) (count (eqb w) (wordsOf (drop (2 * i) bytes)) + spare) (sym found ∙ e) in
         let differs : (v : ℕ) → Reaches q (wordsOf bytes) v → eqb v w ≡ false = λ v r. by-test (eqb v w)
-        (λ (t : eqb v w ≡ true). absurd (omega (arith, half .rest, below, rw (eqb-true v w t) at r)))
+        (λ (t : eqb v w ≡ true). let same = eqb-true v w t in absurd (omega (arith, half .rest, below, from-here, rw same at r, rw same at (so-far .none v r))))
         (λ (t : eqb v w ≡ false). t) in
         record {
           passed = omega arith;

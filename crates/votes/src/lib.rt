@@ -4,13 +4,14 @@ ghost use Prim.Native.Nat.{_+_, _*_, _<_};
 ghost use lib.ListN.{length, drop};
 ghost use lib.Dec.{eqb, leb};
 ghost use Rattle.rules.specs.Lists.{count};
-ghost use Rattle.rules.specs.Words.{wordsOf};
+ghost use Rattle.rules.specs.Words.{wordAt, plain, wordsOf};
 ghost use Rattle.rules.specs.Vote.{vote};
 ghost use Rattle.rules.specs.Answers.{ballotOf};
-ghost use Rattle.votes.specs.Needs.{AboveHalf};
+ghost use Rattle.votes.specs.Needs.{Comparable, Candidate, AboveHalf};
 use rules::Ballot;
 use rules::Outcome;
 use words::plain_at;
+use words::word_at;
 
 // How many entries equal a word.
 fn count_of(list: &[u8], word: u16) -> usize
@@ -62,15 +63,33 @@ fn by_counts(threshold: usize, list: &[u8]) -> Outcome
     Outcome { word, tie: false }
 }
 
-// Whether all but `spare` entries equal a word, or more of them; given up at the first one too many that does not.
-fn all_but(list: &[u8], word: u16, spare: usize) -> bool
-    ensures { λ b. ⌜ b ≡ leb (length (wordsOf (now (list .entry)))) (count (eqb word) (wordsOf (now (list .entry))) + spare) ⌝ }
+// Whether an entry equals a word that is not reserved. The word as it stands is compared first, since that nearly always
+// decides; a reserved one counts as the default.
+fn entry_is(list: &[u8], place: usize, word: u16) -> bool
+    requires { ⌜ Comparable (now list) place word ⌝ }
+    ensures { λ b. ⌜ b ≡ eqb word (plain (wordAt (now (list .entry)) place)) ⌝ }
+{
+    let entry = word_at(list, place);
+    if entry == word {
+        return true;
+    }
+    if entry > 65000 {
+        return word == 0;
+    }
+    false
+}
+
+// Whether all but `spare` entries, or more, equal the one in a place; given up at the first one too many that does not. Those before
+// the place count among the others: where the value stands there first they are, and elsewhere it was judged before.
+fn all_but(list: &[u8], place: usize, word: u16, spare: usize) -> bool
+    requires { ⌜ Candidate (now list) place word spare ⌝ }
+    ensures { λ b. ⌜ b ≡ leb (length (wordsOf (now (list .entry)))) (count (eqb word) (wordsOf (drop (2 * place) (now (list .entry)))) + spare) ⌝ }
 {
     let entries = list.len() / 2;
-    let mut missed: usize = 0;
-    let mut i: usize = 0;
+    let mut missed = place;
+    let mut i = place + 1;
     while i < entries {
-        if plain_at(list, i) != word {
+        if !entry_is(list, i, word) {
             if missed == spare {
                 return false;
             }
@@ -90,7 +109,7 @@ fn above_half(threshold: usize, list: &[u8], spare: usize) -> Outcome
     let mut i: usize = 0;
     while i <= spare {
         let entry = plain_at(list, i);
-        if all_but(list, entry, spare) {
+        if all_but(list, i, entry, spare) {
             return Outcome {
                 word: entry,
                 tie: false,

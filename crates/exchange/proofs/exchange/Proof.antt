@@ -1,5 +1,4 @@
 -- A refused call changes nothing; an accepted one has a table with room for every route, so it is played.
-use Rattle.settings.proofs.Depths.{settings-deep}
 use Rattle.exchange.proofs.Playing
 use borrow.Author.Needs.{needs}
 use Rattle.exchange.proofs.exchange.Statement.{statement}
@@ -20,9 +19,6 @@ play-requires c κs = search Playing.plays
 class-of-requires : tie.Need-class-of-requires
 class-of-requires c κs = search needs
 
-message-count-requires : tie.Need-message-count-requires
-message-count-requires c κs = search (settings-deep, Playing.settings-pass)
-
 cast-messages : tie.Need-cast-messages
 cast-messages c = search Playing.messages-fit
 
@@ -41,7 +37,6 @@ exchange-spec =
     narrowed-requires
     play-requires
     class-of-requires
-    message-count-requires
     cast-messages
     same-length
     returns-2)

@@ -1,8 +1,7 @@
 -- `votes::above_half` meets its contract: after i turns none of the first i entries reaches the threshold.
 use Prim.Native.Nat.{_+_, _-_}
 use native.Mathlib.Omega.{arith}
-use borrow.Author.Needs.{needs}
-use Rattle.votes.proofs.Majority.{Unled, unled-start, in-list, led, unled-next, unled-all}
+use Rattle.votes.proofs.Majority.{Unled, unled-start, in-list, candidate, led, unled-next, unled-all}
 use Rattle.votes.proofs.above_half.Statement.{statement}
 use Rattle.votes.proofs.above_half.Tie as tie
 
@@ -19,7 +18,7 @@ plain-at-requires : tie.Need-plain-at-requires Inv-loop μ-loop
 plain-at-requires c κs = search in-list
 
 all-but-requires : tie.Need-all-but-requires Inv-loop μ-loop
-all-but-requires c κs = search needs
+all-but-requires c κs = search candidate
 
 returns : tie.Need-returns Inv-loop μ-loop
 returns c = search led

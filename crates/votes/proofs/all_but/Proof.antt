@@ -1,23 +1,26 @@
--- `votes::all_but` meets its contract: after i turns the entries passed are those that missed and those that equal the word.
+-- `votes::all_but` meets its contract: the entries passed are those that missed and those that equal the word.
 use Prim.Native.Nat.{_-_, _/_}
 use mathlib.Core.Logic.{⊎-elim}
 use native.Mathlib.Omega.{arith}
 use lib.ListN.{length}
-use Rattle.votes.proofs.Entries.{Missed, missed-none, missed-hit, missed-more, missed-over, missed-few}
+use Rattle.votes.proofs.Entries.{candidate-plain, Missed, missed-before, missed-hit, missed-more, missed-over, missed-few}
 use Rattle.votes.proofs.all_but.Statement.{statement}
 use Rattle.votes.proofs.all_but.Tie as tie
 
 abbrev Inv-loop : tie.InvT-loop
-Inv-loop list word spare entries missed₀ i₀ missed i = Missed list word spare missed i
+Inv-loop list place word spare entries missed₀ i₀ missed i = Missed list place word spare missed i
 
 abbrev μ-loop : tie.MeasureT-loop
-μ-loop list word spare entries missed₀ i₀ missed i = length list / 2 - i
+μ-loop list place word spare entries missed₀ i₀ missed i = length list / 2 - i
+
+add-i : tie.Need-add-i Inv-loop μ-loop
+add-i c = omega arith
 
 loop-holds : tie.Need-loop-holds Inv-loop μ-loop
-loop-holds c = search missed-none
+loop-holds c = search missed-before
 
-plain-at-requires : tie.Need-plain-at-requires Inv-loop μ-loop
-plain-at-requires c κs = omega arith
+entry-is-requires : tie.Need-entry-is-requires Inv-loop μ-loop
+entry-is-requires c κs = record { inside = omega arith; ordinary = search candidate-plain }
 
 returns : tie.Need-returns Inv-loop μ-loop
 returns c = search missed-over
@@ -25,8 +28,8 @@ returns c = search missed-over
 add-missed : tie.Need-add-missed Inv-loop μ-loop
 add-missed c = omega arith
 
-add-i : tie.Need-add-i Inv-loop μ-loop
-add-i c = omega arith
+add-i-2 : tie.Need-add-i-2 Inv-loop μ-loop
+add-i-2 c = omega arith
 
 loop-less : tie.Need-loop-less Inv-loop μ-loop
 loop-less c = omega arith
@@ -43,11 +46,12 @@ all-but-spec =
     (tie.spec
     Inv-loop
     μ-loop
+    add-i
     loop-holds
-    plain-at-requires
+    entry-is-requires
     returns
     add-missed
-    add-i
+    add-i-2
     loop-less
     loop-again
     returns-2)

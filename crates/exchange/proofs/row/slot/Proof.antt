@@ -4,8 +4,8 @@ use borrow.Author.Needs.{needs}
 use Rattle.exchange.proofs.row.slot.Statement.{statement}
 use Rattle.exchange.proofs.row.slot.Tie as tie
 
-is-faulty-requires : tie.Need-is-faulty-requires
-is-faulty-requires c κs = search needs
+in-mask-requires : tie.Need-in-mask-requires
+in-mask-requires c κs = search needs
 
 returns : tie.Need-returns
 returns c = search Slots.slot-faulty
@@ -29,7 +29,7 @@ pub slot-spec : {M : Type 1} → statement M
 slot-spec =
     tie.close
     (tie.spec
-    is-faulty-requires
+    in-mask-requires
     returns
     returns-2
     marked-requires

@@ -7,7 +7,7 @@ use borrow.Fn.PlainCycle.{Measures, is, falls, and}
 use Rattle.exchange.proofs.told.delivered.Reads as delivered
 use Rattle.exchange.proofs.told.delivered.Kinds as delivered-kinds
 use Rattle.exchange.proofs.told.+delivered.Lts-delivered as delivered-lts
-use Rattle.exchange.proofs.told.is_faulty.Reads as is-faulty-reads
+use Rattle.exchange.proofs.masks.in_mask.Reads as in-mask-reads
 use Rattle.routes.proofs.cell_at.Reads as cell-at-reads
 use Rattle.routes.proofs.shortened.Reads as shortened-reads
 use Rattle.routes.proofs.teller_of.Reads as teller-of-reads
@@ -26,13 +26,13 @@ delivered-below t =
     and 1 delivered-kinds.ps (falls 1 delivered-kinds.ps _<_ μ-delivered t) delivered.Pre
 
 abbrev delivered-callees : ℕ → delivered-lts.Claims
-delivered-callees t = (teller-of-reads.Asked, teller-of-reads.Learnt, is-faulty-reads.Asked, is-faulty-reads.Learnt, cell-at-reads.Asked, cell-at-reads.Learnt, plain-at-reads.Asked, plain-at-reads.Learnt, shortened-reads.Asked, shortened-reads.Learnt, delivered-below t, delivered.Post)
+delivered-callees t = (teller-of-reads.Asked, teller-of-reads.Learnt, in-mask-reads.Asked, in-mask-reads.Learnt, cell-at-reads.Asked, cell-at-reads.Learnt, plain-at-reads.Asked, plain-at-reads.Learnt, shortened-reads.Asked, shortened-reads.Learnt, delivered-below t, delivered.Post)
 
 delivered-teller-of-requires : (t : ℕ) → delivered-lts.Need-teller-of-requires (delivered-callees t) (delivered-at t) delivered.Post
 delivered-teller-of-requires t c κs = search Delivering.told-short
 
-delivered-is-faulty-requires : (t : ℕ) → delivered-lts.Need-is-faulty-requires (delivered-callees t) (delivered-at t) delivered.Post
-delivered-is-faulty-requires t c κs = search Delivering.teller-lt
+delivered-in-mask-requires : (t : ℕ) → delivered-lts.Need-in-mask-requires (delivered-callees t) (delivered-at t) delivered.Post
+delivered-in-mask-requires t c κs = search Delivering.teller-lt
 
 delivered-cell-at-requires : (t : ℕ) → delivered-lts.Need-cell-at-requires (delivered-callees t) (delivered-at t) delivered.Post
 delivered-cell-at-requires t c κs = search Delivering.told-numbered
@@ -60,7 +60,7 @@ pub +delivered-spec : {M : Type 1} → statement M
     (delivered-at t)
     delivered.Post
     (delivered-teller-of-requires t)
-    (delivered-is-faulty-requires t)
+    (delivered-in-mask-requires t)
     (delivered-cell-at-requires t)
     (delivered-plain-at-requires t)
     (delivered-returns t)

@@ -1,0 +1,14 @@
+use borrow.Author.Needs.{needs}
+use Rattle.rules.specs.Words.{faulty}
+use Rattle.exchange.proofs.masks.in_mask.Statement.{statement}
+use Rattle.exchange.proofs.masks.in_mask.Tie as tie
+
+shr-result : tie.Need-shr-result
+shr-result c = search needs
+
+returns : tie.Need-returns
+unfolding faulty
+returns c = search needs
+
+pub in-mask-spec : {M : Type 1} → statement M
+in-mask-spec = tie.close (tie.spec shr-result returns)
