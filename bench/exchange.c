@@ -1,6 +1,7 @@
 /* One exchange of the library beside the same exchange in C, in one process and by its processor time: for each layout and fault
-   pattern the median of five runs and the ratio of the two. The rows are compared in the same run. At the end, the stack that
-   one exchange needs. */
+   pattern the median of five runs, of the times and of each run's own ratio. Within a run the sides take short turns, so that a
+   machine that slows down for a while slows all of them. The rows are compared in the same run. At the end, the stack that one
+   exchange needs. */
 #define _POSIX_C_SOURCE 200809L
 #include <pthread.h>
 #include <stdint.h>
@@ -14,7 +15,7 @@
 void yard_recursion(unsigned n, unsigned m, unsigned sender, uint16_t value, uint16_t faults, const uint8_t *table, uint8_t *row);
 void yard_rounds(unsigned n, unsigned m, unsigned sender, uint16_t value, uint16_t faults, const uint8_t *table, uint8_t *row, uint16_t *work, uint16_t *votes);
 
-enum { RUNS = 5, CELLS = 26404, MOST_NODES = 15 };
+enum { RUNS = 5, TURNS = 40, SIDES = 3, CELLS = 26404, MOST_NODES = 15 };
 
 typedef struct {
     unsigned n, m, u;
@@ -70,7 +71,16 @@ static double timed(void (*f)(const play *), const play *p, unsigned reps)
     double start = now();
     for (unsigned i = 0; i < reps; i++)
         f(p);
-    return (now() - start) / reps;
+    return now() - start;
+}
+
+/* one run: the time of one exchange on each side */
+static void run(void (*const side[SIDES])(const play *), const play *p, unsigned reps, double time[SIDES])
+{
+    memset(time, 0, SIDES * sizeof *time);
+    for (unsigned i = 0; i < TURNS; i++)
+        for (unsigned k = 0; k < SIDES; k++)
+            time[k] += timed(side[k], p, reps) / reps / TURNS;
 }
 
 static int ascending(const void *a, const void *b)
@@ -99,20 +109,21 @@ static void compare_rows(const play *p, void (*f)(const play *))
 
 static void measure(const layout *l, const char *pattern, uint16_t faults)
 {
-    double a[RUNS], b[RUNS], c[RUNS];
+    static void (*const side[SIDES])(const play *) = {play_ours, play_recursion, play_rounds};
+    double time[SIDES][RUNS], ratio[SIDES][RUNS], one[SIDES];
     play p = {l, faults, 2 * cells(l->n, l->m)};
     compare_rows(&p, play_recursion);
     compare_rows(&p, play_rounds);
     unsigned reps = 1;
-    while (timed(play_recursion, &p, reps) * reps < 0.02)
+    while (timed(play_recursion, &p, reps) < 0.001)
         reps *= 2;
     for (unsigned i = 0; i < RUNS; i++) {
-        a[i] = timed(play_ours, &p, reps);
-        b[i] = timed(play_recursion, &p, reps);
-        c[i] = timed(play_rounds, &p, reps);
+        run(side, &p, reps, one);
+        for (unsigned k = 0; k < SIDES; k++)
+            time[k][i] = one[k], ratio[k][i] = one[0] / one[k];
     }
-    double x = median(a), y = median(b), z = median(c);
-    printf("| %u,%u,%u | %s | %.2f | %.2f | %.2f | %.2f | %.2f |\n", l->n, l->m, l->u, pattern, x * 1e6, y * 1e6, x / y, z * 1e6, x / z);
+    printf("| %u,%u,%u | %s | %.2f | %.2f | %.2f | %.2f | %.2f |\n", l->n, l->m, l->u, pattern, median(time[0]) * 1e6,
+           median(time[1]) * 1e6, median(ratio[1]), median(time[2]) * 1e6, median(ratio[2]));
 }
 
 /* bits first .. first+k-1 */
