@@ -28,7 +28,7 @@ use Rattle.rules.specs.declared.Decided.{Decided}
 use Rattle.exchange.specs.Ready.{Marked, Relayed, Ready, Gatherable}
 use Rattle.exchange.specs.Entries.{Gathered}
 use Rattle.exchange.proofs.Bytes
-use Rattle.exchange.proofs.Delivering
+use Rattle.exchange.proofs.Passing
 use Rattle.exchange.proofs.Marks
 use Rattle.exchange.proofs.Ties
 
@@ -58,7 +58,7 @@ module _ (s : Settings) (t : List ℕ) (r : R.Route) (used left j : ℕ) (p : Re
   extended-ready : (e : R.Route) (used′ : ℕ) → e ≡ rowOfRoute (via j (held r)) → (left ≡ 1 → ⊥) → used′ ≡ bitOr used (2 ^ j) → Ready s t e used′ (left - 1)
   unfolding rowOfRoute
   extended-ready e used′ ee more eu =
-      let told = Delivering.relay-told s t r used j extended-relay e ee in
+      let told = Passing.relay-told s t r used j extended-relay e ee in
       let len : e .len ≡ r .len + 1 = ap (λ (q : R.Route). q .len) ee ∙ omega (arith, length-via j (held r), length-back (r .nodes) (r .len)) in
       record {
         given = p .given;

@@ -1,5 +1,6 @@
 pub mod Refusing
 pub mod Delivering
+pub mod Passing
 pub mod Marks
 pub mod Bytes
 pub mod Ties
