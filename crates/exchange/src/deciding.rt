@@ -56,6 +56,7 @@ fn gather(s: Judged, table: &[u8], r: Route, used: u16, left: usize, bytes: &mut
 {
     let own = arrives(s, table, r, used);
     put_word(bytes, 0, own);
+    // who is neither the sender nor on the route may receive
     let taken = marked(used, s.sender);
     let mut count: usize = 1;
     let mut ties: u32 = 0;

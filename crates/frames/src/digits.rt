@@ -9,7 +9,7 @@ ghost use Rattle.scenario.specs.Reasons.{noFrame};
 ghost use Rattle.frames.specs.Rows.{frameRow};
 
 // 0-9 or A-F.
-pub fn is_digit(byte: u8) -> bool
+fn is_digit(byte: u8) -> bool
     ensures { λ r. ⌜ r ≡ isDigit byte ⌝ }
 {
     if byte < 48 {
@@ -25,7 +25,7 @@ pub fn is_digit(byte: u8) -> bool
 }
 
 // What a digit stands for.
-pub fn digit_value(byte: u8) -> u8
+fn digit_value(byte: u8) -> u8
     requires { ⌜ isDigit byte ≡ true ⌝ }
     ensures { λ r. ⌜ r ≡ digitValue byte ⌝ }
 {
@@ -41,7 +41,7 @@ pub fn digit_of(value: u8) -> u8
 }
 
 // Every byte of a line is a digit.
-pub fn all_digits(held: [u8; 19], count: usize) -> bool
+fn all_digits(held: [u8; 19], count: usize) -> bool
     requires { ⌜ count ≤ 19 ⌝ }
     ensures { λ r. ⌜ r ≡ all isDigit (take count held) ⌝ }
 {
