@@ -26,7 +26,7 @@ pub one-marks : (κs : Lfts 3) (a : Dens κs feed-kinds.ps) (x y : resT feed-kin
     → feed.Post κs a x s → feed.Post κs a y t → s .1 .1 .1 .0 .now ≡ t .1 .1 .1 .0 .now
 one-marks κs a x y s t p q = p .2 ∙ sym (q .2)
 
--- a line judged
+-- ---- one line: what is left of reader, table and marks is one desk
 
 pub one-judged : OneResult 2 judge-line-kinds.ps judge-line-kinds.r judge-line.Post
 one-judged κs a x y s t p q = ap (λ (d : Desk). d .reader) (p ∙ sym q)

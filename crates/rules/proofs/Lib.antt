@@ -6,6 +6,7 @@ pub mod Accepted
 pub mod Order
 pub mod Clauses
 pub mod Numbering
+pub mod Paths
 pub mod Ascending
 pub mod Inverse
 pub mod Rows

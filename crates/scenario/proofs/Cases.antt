@@ -56,6 +56,8 @@ lent table marks input output = record { input = input; table = table; marks = m
 unfoldable pub cases : List Case
 cases =
     lent 32 2 sampleInput sampleOutput
+    -- f and the class differ, and the sender is faulty: more faults than u
+    ∷ lent 18 2 "010401010000000009\n0201010005\n0201020006\n020203010005\n020203020006\n030004\n" "110002FFFF\n1101010005\n1102010006\n110302FFFF\n12020300000009\n"
     ∷ case "" "1F1A0000\n"  -- no line
     ∷ case "\n" "1F140001\n"  -- 20: no digits
     ∷ case "010\n" "1F140001\n"  -- an odd number

@@ -1,13 +1,17 @@
 -- Line numbers and counts in a file that is read from its start: they are exact, and fit a word with room to spare.
 use mathlib.Core.Path.{_≡_, sym, ap, _∙_}
 use mathlib.Core.Bool.{true, false, true≢false}
-use mathlib.Core.List.{List, _∷_, _++_, foldl-append}
+use mathlib.Core.List.{List, [], _∷_, _++_, foldl-append}
 use Prim.Native.Nat.{ℕ, _+_, _≤_}
 use native.Mathlib.Omega.{arith}
 use lib.ListN.{length}
 use Rattle.scenario.specs.Reasons.{Desk, stageOf, stopped}
 use Rattle.scenario.specs.Judging.{after, opened, told, closed, refusedWith, judged, judgedAll}
-use Rattle.scenario.specs.File.{begun}
+use Rattle.rules.specs.Refusals.{first}
+use Rattle.rules.proofs.Counting.{by-test}
+use Rattle.scenario.specs.Lines.{linesOf}
+use Rattle.scenario.specs.File.{fresh, begun, fileJudged, endReasons, refusedLine, fileRefusal}
+use Rattle.scenario.proofs.Refusals.{line-small}
 use Rattle.scenario.proofs.Pieces.{all-stopped}
 use Rattle.scenario.proofs.Outcomes.{Outcome, stays, refuses, opens, tells, closes, outcome}
 use Rattle.scenario.proofs.FromStart.{Sound, unopened, reading, halted, stage-first, stage-known, from-start, given-most, one-more}
@@ -77,3 +81,29 @@ module _ (table marks : List ℕ) where
       by (opens e o to) = absurd (true≢false (sym stop ∙ rw to))
       by (tells e t to) = absurd (true≢false (sym stop ∙ rw to))
       by (closes e c to) = absurd (true≢false (sym stop ∙ rw to))
+
+  -- ---- 26 comes with line 0
+
+  -- the number of a refused line is 25 at the most
+  small : (d : Desk) (line : List ℕ) → d .reader .refusal ≤ 25 → judged d line .reader .refusal ≤ 25
+  unfolding opened told closed refusedWith after
+  small d line few = by (outcome d line)
+    where
+      by : Outcome d line → judged d line .reader .refusal ≤ 25
+      by (stays e to) = rw to few
+      by (refuses e k to) = rw to (line-small d line)
+      by (opens e o to) = rw to (omega arith)
+      by (tells e t to) = rw to (omega arith)
+      by (closes e c to) = rw to (omega arith)
+
+  all-small : (d : Desk) (lines : List (List ℕ)) → d .reader .refusal ≤ 25 → judgedAll d lines .reader .refusal ≤ 25
+  all-small d [] few = few
+  all-small d (line ∷ lines) few = all-small (judged d line) lines (small d line few)
+
+  pub no-line : (x : List ℕ) → fileRefusal table marks x ≡ 26 → refusedLine (fileJudged table marks x .reader) ≡ 0
+  unfolding refusedLine fileJudged endReasons first fresh
+  no-line x e =
+      let r = desk (linesOf x) .reader in
+      by-test (stopped r)
+      (λ (s : stopped r ≡ true). absurd (omega (arith, rw s at e, all-small (begun table marks) (linesOf x) (omega arith))))
+      (λ (s : stopped r ≡ false). rw s)

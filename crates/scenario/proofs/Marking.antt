@@ -1,9 +1,9 @@
--- The lent marks: setting a cell's mark sets it and no other, and cleared marks are all unset.
+-- The lent marks: where a cell's mark stands; setting it sets it and no other, and cleared marks are all unset.
 use mathlib.Core.Path.{_≡_, refl, _∙_}
 use mathlib.Core.Logic.{_≢_}
 use mathlib.Core.Bool.{true, false}
-use mathlib.Core.List.{List}
-use Prim.Native.Nat.{ℕ, zero, suc, _/_, _%_, _^_, max, _<_}
+use mathlib.Core.List.{List, _∷_}
+use Prim.Native.Nat.{ℕ, zero, suc, _+_, _/_, _%_, _^_, max, _<_}
 use native.Mathlib.Nat.{div-eq-of-lt, mul-div-mul-left, mul-mod-right, pow-succ', pow-zero, div-one, zero-div}
 use native.Mathlib.Omega.{arith}
 use lib.ListN.{length, getD, replicate, length-set}
@@ -15,6 +15,24 @@ use borrow.Author.Tests.{eqb-true, eqb-false, eq-eqb, ne-eqb, ltb-true, ltb-fals
 use Rattle.rules.specs.Lists.{bit}
 use Rattle.rules.proofs.Counting.{by-test}
 use Rattle.scenario.specs.Marks.{marked, mark, bitsOf}
+
+-- ---- where a cell's mark stands
+
+-- the first eight cells have the bits of the first byte, the first cell the lowest,
+pub first-byte : (b : ℕ) (marks : List ℕ) (c : ℕ) → c < 8 → marked (b ∷ marks) c ≡ eqb (b / 2 ^ c % 2) 1
+unfolding marked
+first-byte b marks c h =
+    let byte : c / 8 ≡ 0 = omega arith in
+    let place : c % 8 ≡ c = omega arith in
+    rw (byte, place)
+
+-- and those behind them the bits of the bytes behind it
+pub next-byte : (b : ℕ) (marks : List ℕ) (c : ℕ) → marked (b ∷ marks) (8 + c) ≡ marked marks c
+unfolding marked
+next-byte b marks c =
+    let byte : (8 + c) / 8 ≡ suc (c / 8) = omega arith in
+    let place : (8 + c) % 8 ≡ c % 8 = omega arith in
+    rw (byte, place)
 
 -- ---- one byte
 
