@@ -14,16 +14,16 @@ use Rattle.rules.proofs.Receivers.{free-cons, free-tail, receiver-below
 use Rattle.rules.proofs.Numbering.{route-is, is-route}
 
 -- numbers all different, all below n, none the sender
-pub record Path (n sender : ℕ) (p : List ℕ) : Type 0 where
+pub record PathFacts (n sender : ℕ) (p : List ℕ) : Type 0 where
   pub below : (i : ℕ) → i < length p → getD p i 0 < n
   pub not-sender : (i : ℕ) → i < length p → getD p i 0 ≢ sender
   pub different : (i j : ℕ) → i < j → j < length p → getD p i 0 ≢ getD p j 0
 
 -- 1 to m+1 of them
-pub record Route (n m sender : ℕ) (p : List ℕ) : Type 0 where
+pub record RouteFacts (n m sender : ℕ) (p : List ℕ) : Type 0 where
   pub some : 1 ≤ length p
   pub short : length p ≤ m + 1
-  pub path : Path n sender p
+  pub path : PathFacts n sender p
 
 -- x is free exactly where it is none of the numbers
 free-differs : (p : List ℕ) (x : ℕ) → free p x ≡ true → (i : ℕ) → i < length p → x ≢ getD p i 0
@@ -39,7 +39,7 @@ differs-free (a ∷ p) x h = free-cons a p x (h 0 (omega arith)) (differs-free p
 
 module _ (n sender : ℕ) where
   -- one number more, which may receive on top of the others
-  more : (a : ℕ) (p : List ℕ) → receiver n sender p a ≡ true → Path n sender p → Path n sender (a ∷ p)
+  more : (a : ℕ) (p : List ℕ) → receiver n sender p a ≡ true → PathFacts n sender p → PathFacts n sender (a ∷ p)
   more a p r rest = record { below = low; not-sender = other; different = apart }
     where
       away : (i : ℕ) → i < length (sender ∷ p) → a ≢ getD (sender ∷ p) i 0
@@ -59,11 +59,11 @@ module _ (n sender : ℕ) where
       apart (suc i) zero l b = absurd (omega arith)
       apart (suc i) (suc j) l b = rest .different i j (omega arith) (omega arith)
 
-  path-facts : (p : List ℕ) → isPath n sender p ≡ true → Path n sender p
+  path-facts : (p : List ℕ) → isPath n sender p ≡ true → PathFacts n sender p
   path-facts [] h = record { below = λ i b. absurd (omega arith); not-sender = λ i b. absurd (omega arith); different = λ i j l b. absurd (omega arith) }
   path-facts (a ∷ p) h = more a p (path-head n sender p a h) (path-facts p (path-tail n sender p a h))
 
-  facts-path : (p : List ℕ) → Path n sender p → isPath n sender p ≡ true
+  facts-path : (p : List ℕ) → PathFacts n sender p → isPath n sender p ≡ true
   unfolding isPath
   facts-path [] h = refl
   facts-path (a ∷ p) h =
@@ -78,10 +78,10 @@ module _ (n sender : ℕ) where
       away zero b = h .not-sender 0 (omega arith)
       away (suc i) b = h .different 0 (suc i) (omega arith) (omega arith)
 
-  pub path-is : (p : List ℕ) → (isPath n sender p ≡ true) ↔ Path n sender p
+  pub path-is : (p : List ℕ) → (isPath n sender p ≡ true) ↔ PathFacts n sender p
   path-is p = (path-facts p, facts-path p)
 
-  pub route-plain : (m : ℕ) (p : List ℕ) → (isRoute n m sender p ≡ true) ↔ Route n m sender p
+  pub route-plain : (m : ℕ) (p : List ℕ) → (isRoute n m sender p ≡ true) ↔ RouteFacts n m sender p
   route-plain m p = (
     λ h. let r = route-is n m sender p h in record { some = r .some; short = r .short; path = path-facts p (r .path) },
     λ r. is-route n m sender p (record { some = r .some; short = r .short; path = facts-path p (r .path) }),

@@ -123,8 +123,8 @@ fn above_half(threshold: usize, list: &[u8], spare: usize) -> Outcome
     }
 }
 
-// VOTE with a threshold. In an exchange it is nearly always above half of the entries, where one pass or two decide; the
-// answer is the same for every threshold.
+// VOTE with a threshold. In an exchange it is above half of the entries at every level, where a pass or two mostly decide; the
+// answer is VOTE's for every threshold.
 pub fn tally(threshold: usize, list: &[u8]) -> Outcome
     ensures { λ r. ⌜ r ≡ vote threshold (wordsOf (now (list .entry))) ⌝ }
 {
