@@ -106,16 +106,16 @@ fn above_half(threshold: usize, list: &[u8], spare: usize) -> Outcome
     requires { ⌜ AboveHalf threshold (wordsOf (now list)) spare ⌝ }
     ensures { λ r. ⌜ r ≡ vote threshold (wordsOf (now (list .entry))) ⌝ }
 {
-    let mut i: usize = 0;
-    while i <= spare {
-        let entry = plain_at(list, i);
-        if all_but(list, i, entry, spare) {
+    let mut place: usize = 0;
+    while place <= spare {
+        let entry = plain_at(list, place);
+        if all_but(list, place, entry, spare) {
             return Outcome {
                 word: entry,
                 tie: false,
             };
         }
-        i += 1;
+        place += 1;
     }
     Outcome {
         word: 0,

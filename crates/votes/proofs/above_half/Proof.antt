@@ -1,4 +1,4 @@
--- `votes::above_half` meets its contract: after i turns none of the first i entries reaches the threshold.
+-- `votes::above_half` meets its contract: before each turn no value that reaches the threshold stands before the place.
 use Prim.Native.Nat.{_+_, _-_}
 use native.Mathlib.Omega.{arith}
 use Rattle.votes.proofs.Majority.{Unled, unled-start, in-list, candidate, led, unled-next, unled-all}
@@ -6,10 +6,10 @@ use Rattle.votes.proofs.above_half.Statement.{statement}
 use Rattle.votes.proofs.above_half.Tie as tie
 
 abbrev Inv-loop : tie.InvT-loop
-Inv-loop threshold list spare i₀ i = Unled threshold list spare i
+Inv-loop threshold list spare place₀ place = Unled threshold list spare place
 
 abbrev μ-loop : tie.MeasureT-loop
-μ-loop threshold list spare i₀ i = spare + 1 - i
+μ-loop threshold list spare place₀ place = spare + 1 - place
 
 loop-holds : tie.Need-loop-holds Inv-loop μ-loop
 loop-holds c = search unled-start
@@ -23,8 +23,8 @@ all-but-requires c κs = search candidate
 returns : tie.Need-returns Inv-loop μ-loop
 returns c = search led
 
-add-i : tie.Need-add-i Inv-loop μ-loop
-add-i c = omega arith
+add-place : tie.Need-add-place Inv-loop μ-loop
+add-place c = omega arith
 
 loop-less : tie.Need-loop-less Inv-loop μ-loop
 loop-less c = omega arith
@@ -45,7 +45,7 @@ above-half-spec =
     plain-at-requires
     all-but-requires
     returns
-    add-i
+    add-place
     loop-less
     loop-again
     returns-2)
