@@ -67,13 +67,6 @@ module _ (s : Settings) (table : List ℕ) where
     pub slot-unreported : (i : ℕ) → (slot s table i .word ≡ notReported) ↔ (faulty (s .faults) i ≡ true)
     slot-unreported i = (λ e. by-test (faulty (s .faults) i) (λ f. f) (λ f. absurd (omega (arith, slot-ordinary i f, e))), slot-faulty i)
 
-    -- and every slot is a word
-    pub slot-word : (i : ℕ) → slot s table i .word < 65536
-    slot-word i =
-        by-test (faulty (s .faults) i)
-        (λ (f : faulty (s .faults) i ≡ true). omega (arith, slot-faulty i f))
-        (λ (f : faulty (s .faults) i ≡ false). omega (arith, slot-ordinary i f))
-
 -- ---- the row that an exchange leaves
 
 module _ (s : Settings) (table row : List ℕ) where

@@ -149,12 +149,7 @@ module _ (n sender : ℕ) (node : sender < n) where
   round-filled k c = (at-cell k c, λ r. rw (r .its) at (cell-in-round n sender node k (r .route) (r .long) (r .path)))
 
   module _ (m : ℕ) where
-    -- a cell's route has one number more than its round's number
-    pub route-at-long : (c : ℕ) → length (routeAt n m sender c) ≡ suc (roundOf n m c)
-    unfolding routeAt
-    route-at-long c = length-unrank n sender (suc (roundOf n m c)) (c - cellsBefore n (roundOf n m c))
-
-    -- it is a route
+    -- a cell's route is a route
     pub route-at-is : (c : ℕ) → c < cells n m → isRoute n m sender (routeAt n m sender c) ≡ true
     unfolding routeAt at-cell
     route-at-is c h =

@@ -1,15 +1,15 @@
 -- Hexadecimal goes both ways: what is written is read back, and what is read could only be written so.
 use mathlib.Core.Path.{_≡_, refl, ap₂}
-use mathlib.Core.Bool.{Bool, true, false, _&&_, _||_, or-true}
+use mathlib.Core.Bool.{Bool, true, false, _&&_, _||_}
 use mathlib.Core.List.{List, [], _∷_}
 use Prim.Native.Nat.{ℕ, _+_, _-_, _*_, _/_, _%_, _<_}
 use native.Mathlib.Omega.{arith}
 use lib.ListN.{length}
 use lib.Dec.{ltb, leb}
 use lib.Arith.{digits-div, digits-mod}
-use borrow.Author.Tests.{ltb-true, ltb-false, lt-ltb, le-ltb, leb-true, le-leb}
+use borrow.Author.Tests.{ltb-true, ltb-false, lt-ltb, le-ltb, leb-true}
 use Rattle.rules.specs.Lists.{all}
-use Rattle.rules.proofs.Counting.{by-test, and-left, and-right, and-both}
+use Rattle.rules.proofs.Counting.{by-test, and-left, and-right}
 use Rattle.scenario.specs.Hex.{isDigit, digitValue, digitOf, frameOf, digitsOf}
 
 -- ---- one digit
@@ -44,18 +44,6 @@ digit-of b h =
     let to = leb-true b 70 (and-right (leb 65 b) (leb b 70) e) in
     rw (le-ltb b 65 (omega arith)) (record { low = omega arith; written = rw (le-ltb (b - 55) 10 (omega arith)) (omega arith) }))
 
--- every number below 16 is written by a digit
-pub is-digit : (v : ℕ) → v < 16 → isDigit (digitOf v) ≡ true
-unfolding isDigit digitOf
-is-digit v h =
-    by-test (ltb v 10)
-    (λ (e : ltb v 10 ≡ true).
-    let low = ltb-true v 10 e in
-    rw (e, le-leb 48 (48 + v) (omega arith), le-leb (48 + v) 57 (omega arith)))
-    (λ (e : ltb v 10 ≡ false).
-    let high = ltb-false v 10 e in
-    rw (e, le-leb 65 (55 + v) (omega arith), le-leb (55 + v) 70 (omega arith), or-true))
-
 -- ---- rows of bytes and lines of digits
 
 abbrev pub isByte : ℕ → Bool
@@ -85,29 +73,6 @@ written-so (a ∷ b ∷ line) h even =
     (ap₂ _∷_
     (rw (digits-mod (digitValue a) (low .low)) (low .written))
     (written-so line (and-right (isDigit b) (all isDigit line) later) (omega arith)))
-
--- what digits write are bytes
-pub frame-bytes : (line : List ℕ) → all isDigit line ≡ true → all isByte (frameOf line) ≡ true
-unfolding frameOf all
-frame-bytes [] h = refl
-frame-bytes (a ∷ []) h = refl
-frame-bytes (a ∷ b ∷ line) h =
-    let later = and-right (isDigit a) (isDigit b && all isDigit line) h in
-    let high = digit-of a (and-left (isDigit a) (isDigit b && all isDigit line) h) in
-    let low = digit-of b (and-left (isDigit b) (all isDigit line) later) in
-    and-both
-    (lt-ltb (digitValue a * 16 + digitValue b) 256 (omega arith))
-    (frame-bytes line (and-right (isDigit b) (all isDigit line) later))
-
--- bytes are written by digits, two each
-pub digits-only : (frame : List ℕ) → all isByte frame ≡ true → all isDigit (digitsOf frame) ≡ true
-unfolding digitsOf all
-digits-only [] h = refl
-digits-only (b ∷ frame) h =
-    let low : b < 256 = ltb-true b 256 (and-left (isByte b) (all isByte frame) h) in
-    and-both (is-digit (b / 16) (omega arith))
-    (and-both (is-digit (b % 16) (omega arith))
-    (digits-only frame (and-right (isByte b) (all isByte frame) h)))
 
 pub length-digits : (frame : List ℕ) → length (digitsOf frame) ≡ 2 * length frame
 unfolding digitsOf

@@ -95,10 +95,6 @@ line-refused k d line = first-is k (lineReasons d line)
 pub line-passed : (d : Desk) (line : List ℕ) → (lineRefusal d line ≡ 0) ↔ NoneApplies (lineReasons d line)
 line-passed d line = first-none 25 (lineReasons d line) (line-numbered d line)
 
--- the number fits a byte
-pub line-small : (d : Desk) (line : List ℕ) → lineRefusal d line ≤ 25
-line-small d line = first-below 25 (lineReasons d line) (line-numbered d line)
-
 -- ---- a file
 
 end-numbered : (r : Reader) (table rest : List ℕ) → numbered (r .refusal + 26) (endReasons r table rest) ≡ true
