@@ -11,7 +11,7 @@ use Rattle.rules.specs.Routes.{held, isRoute}
 use Rattle.rules.specs.Cells.{cells}
 use Rattle.rules.specs.Refusals.{Reason, because, first, noSender, wrongTable, noRoute, noCell, noRound, layoutReasons, routeReasons, cellReasons, partReasons, routeRefusal, cellRefusal, partRefusal}
 use Rattle.rules.specs.declared.Route as R
-use Rattle.rules.proofs.Refused.{first-zero, first-front, first-rest, layout-ascend}
+use Rattle.rules.proofs.Refused.{layout-ascend, front-stands, rest-decides}
 use Rattle.rules.proofs.Accepted.{LayoutAccepted, layout-accepted}
 use Rattle.rules.proofs.Growth.{messages-most}
 use Rattle.routes.specs.Needs.{Depth}
@@ -21,11 +21,11 @@ use Rattle.settings.proofs.Depths.{layout-deep}
 
 module _ (n m k : ℕ) (judged : k ≡ first (layoutReasons n m)) where
   pub layout-stands : (rest : List Reason) → (k ≡ 0 → ⊥) → k ≡ first (layoutReasons n m ++ rest)
-  layout-stands rest h = judged ∙ first-front (layoutReasons n m) rest (λ e. h (judged ∙ e))
+  layout-stands rest = front-stands (layoutReasons n m) rest k judged
 
   module _ (z : k ≡ 0) where
     layout-passes : (rest : List Reason) → first (layoutReasons n m ++ rest) ≡ first rest
-    layout-passes rest = first-rest (first-zero 0 (layoutReasons n m) (layout-ascend n m) .0 (sym judged ∙ z)) rest
+    layout-passes rest = rest-decides (layoutReasons n m) rest k (layout-ascend n m) judged z
 
     next-decides : (rest : List Reason) (x : ℕ) → x ≡ first rest → x ≡ first (layoutReasons n m ++ rest)
     next-decides rest x e = e ∙ sym (layout-passes rest)

@@ -8,7 +8,7 @@ use mir.Val.{Fits}
 use borrow.Author.Tests.{eq-eqb, ne-eqb}
 use Rattle.rules.specs.Cells.{cells}
 use Rattle.rules.specs.Refusals.{because, first, wrongTable, wrongRow, settingsReasons, settingsRefusal, exchangeReasons, exchangeRefusal}
-use Rattle.rules.proofs.Refused.{first-zero, first-front, first-rest, settings-ascend}
+use Rattle.rules.proofs.Refused.{settings-ascend, front-stands, rest-decides}
 use Rattle.rules.proofs.Accepted.{SettingsAccepted, settings-accepted, layout-of}
 use Rattle.rules.proofs.Growth.{messages-most}
 use Rattle.rules.specs.declared.Settings.{Settings}
@@ -18,12 +18,12 @@ use Rattle.rules.specs.declared.Settings.{Settings}
 -- what refuses the settings refuses the exchange
 pub settings-refused : (s : Settings) (table row k : ℕ) → k ≡ settingsRefusal s → (k ≡ 0 → ⊥) → k ≡ exchangeRefusal s table row
 unfolding exchangeReasons
-settings-refused s table row k e n = e ∙ first-front (settingsReasons s) _ (λ z. n (e ∙ z))
+settings-refused s table row k = front-stands (settingsReasons s) _ k
 
 module _ (s : Settings) (table row k c : ℕ) (e : k ≡ settingsRefusal s) (z : k ≡ 0) (ec : c ≡ cells (s .n) (s .m)) where
   lengths : exchangeRefusal s table row ≡ first (because 8 (wrongTable (s .n) (s .m) table) ∷ because 9 (wrongRow (s .n) row) ∷ [])
   unfolding exchangeReasons
-  lengths = first-rest (first-zero 0 (settingsReasons s) (settings-ascend s) .0 (sym e ∙ z)) _
+  lengths = rest-decides (settingsReasons s) _ k (settings-ascend s) e z
 
   pub wrong-table : (table ≡ 2 * c → ⊥) → 8 ≡ exchangeRefusal s table row
   unfolding first wrongTable

@@ -17,7 +17,7 @@ use Rattle.rules.specs.declared.Settings.{Settings}
 use Rattle.rules.specs.declared.Route as R
 use Rattle.rules.specs.declared.CellFound.{CellFound}
 use Rattle.rules.proofs.Counting.{by-test}
-use Rattle.rules.proofs.Refused.{first-zero, first-front, first-rest, settings-ascend}
+use Rattle.rules.proofs.Refused.{settings-ascend, settings-most, front-stands, rest-decides}
 use Rattle.rules.proofs.Accepted.{settings-accepted, layout-of, route-accepted}
 use Rattle.rules.proofs.Growth.{messages-most}
 use Rattle.scenario.specs.Frames.{settingsIn, routeIn, countIn, kindOf}
@@ -25,7 +25,6 @@ use Rattle.scenario.specs.Marks.{marked}
 use Rattle.scenario.specs.Reasons.{Desk, desk, stageOf, inPlace, outOfPlace, cellIn, routeless, givenBefore, wrongCount, shortTable, shortMarks, lentReasons, openReasons, tellReasons, closeReasons, kindReasons}
 use Rattle.reasons.specs.Steps.{lentRefusal, openRefusal, tellRefusal, closeRefusal, kindRefusal}
 use Rattle.scenario.specs.declared.Reader.{Reader}
-use Rattle.scenario.proofs.Refusals.{first-below, settings-numbered}
 use Rattle.frames.specs.Rows.{frameRow}
 use Rattle.frames.proofs.FrameRows.{row-byte, settings-row, route-row, count-row}
 
@@ -55,20 +54,18 @@ module _ (s : Settings) (table marks : ℕ) (k : ℕ) (is : k ≡ cells (s .n) (
 
 -- the settings' refusals are 7 at the most
 pub settings-byte : (s : Settings) (k : ℕ) → k ≡ settingsRefusal s → Fits w8 k
-settings-byte s k e = record { fits = omega (arith, first-below 7 (settingsReasons s) (settings-numbered s)) }
+settings-byte s k e = record { fits = omega (arith, settings-most s) }
 
 module _ (frame table marks : List ℕ) (s : Settings) (read : s ≡ settingsIn frame) (k : ℕ) (is : k ≡ settingsRefusal s) where
   -- settings that are refused are the `01` line's refusal
   pub settings-refused : (k ≡ 0 → ⊥) → k ≡ openRefusal frame table marks
   unfolding openReasons
-  settings-refused h =
-      let e : k ≡ settingsRefusal (settingsIn frame) = rw read at is in
-      e ∙ first-front (settingsReasons (settingsIn frame)) _ (λ z. h (e ∙ z))
+  settings-refused = front-stands (settingsReasons (settingsIn frame)) _ k (rw read at is)
 
   -- where they pass, what is lent decides
   pub settings-passed : k ≡ 0 → (j : ℕ) → j ≡ lentRefusal s (length table) (length marks) → j ≡ openRefusal frame table marks
   unfolding openReasons lentReasons
-  settings-passed h j e = e ∙ rw (← read) (sym (first-rest (first-zero 0 (settingsReasons s) (settings-ascend s) .0 (sym is ∙ h)) _))
+  settings-passed h j e = e ∙ rw (← read) (sym (rest-decides (settingsReasons s) _ k (settings-ascend s) is h))
 
 -- ---- an `02` line's own
 

@@ -2,13 +2,14 @@
 -- when none applies. It is shown once over any list of reasons, then read off for each entry point.
 use mathlib.Core.Path.{_≡_, refl, sym, _∙_}
 use mathlib.Core.Logic.{_⊎_, inl, inr, ⊎-elim, _≢_, _↔_}
-use mathlib.Core.Bool.{Bool, true, false, _&&_, true≢false}
+use mathlib.Core.Bool.{Bool, true, false, not, _&&_, true≢false, false≢true}
 use mathlib.Core.List.{List, [], _∷_, _++_, map}
-use Prim.Native.Nat.{ℕ, _<_}
+use Prim.Native.Nat.{ℕ, _≤_, _<_}
 use native.Mathlib.Omega.{arith}
-use lib.Dec.{ltb}
-use borrow.Author.Tests.{ltb-true}
-use Rattle.rules.specs.Refusals.{Reason, first, settingsReasons, exchangeReasons, layoutReasons, routeReasons, cellReasons, partReasons, voteReasons, exchangeRefusal, routeRefusal, cellRefusal, partRefusal, voteRefusal}
+use lib.Dec.{eqb, ltb, leb}
+use borrow.Author.Tests.{ltb-true, leb-true, ne-eqb}
+use Rattle.rules.specs.Lists.{all}
+use Rattle.rules.specs.Refusals.{Reason, first, settingsReasons, exchangeReasons, layoutReasons, routeReasons, cellReasons, partReasons, voteReasons, settingsRefusal, exchangeRefusal, routeRefusal, cellRefusal, partRefusal, voteRefusal}
 use Rattle.rules.specs.declared.Settings.{Settings}
 use Rattle.rules.specs.declared.Route as R
 use Rattle.rules.proofs.Counting.{by-test, and-left, and-right}
@@ -44,6 +45,11 @@ unfoldable pub ascending : ℕ → List ℕ → Bool
 ascending k [] = true
 ascending k (x ∷ xs) = ltb k x && ascending x xs
 
+-- no reason that applies is numbered 0
+unfoldable pub numbered : List Reason → Bool
+numbered [] = true
+numbered (r ∷ rs) = not (eqb (r .number) 0 && r .applies) && numbered rs
+
 -- ---- over any list
 
 -- the answer is k, which is not 0, exactly when k is the number of the first reason that applies
@@ -71,21 +77,43 @@ ascending-tail : (j x : ℕ) (xs : List ℕ) → ascending j (x ∷ xs) ≡ true
 unfolding ascending
 ascending-tail j x xs h = and-right (ltb j x) (ascending x xs) h
 
--- the answer is 0 exactly when no reason applies, where no number of the list is 0
-pub first-zero : (j : ℕ) (l : List Reason) → ascending j (numbers l) ≡ true → (first l ≡ 0) ↔ NoneApplies l
-unfolding first
-first-zero j l up = (to j l up, from)
+-- the answer is 0 exactly when no reason applies, where none that applies is numbered 0
+pub first-none : (l : List Reason) → numbered l ≡ true → (first l ≡ 0) ↔ NoneApplies l
+unfolding first numbered
+first-none l named = (to l named, from)
   where
-    to : (i : ℕ) (rs : List Reason) → ascending i (numbers rs) ≡ true → first rs ≡ 0 → NoneApplies rs
-    to i [] a e = end
-    to i (r ∷ rs) a e =
+    to : (rs : List Reason) → numbered rs ≡ true → first rs ≡ 0 → NoneApplies rs
+    to [] n e = end
+    to (r ∷ rs) n e =
         by-test (r .applies)
-        (λ (y : r .applies ≡ true). absurd (omega (arith, ascending-head i (r .number) (numbers rs) a, rw y at e)))
-        (λ (y : r .applies ≡ false). y ⨾ to (r .number) rs (ascending-tail i (r .number) (numbers rs) a) (rw y at e))
+        (λ (y : r .applies ≡ true).
+        let zero : r .number ≡ 0 = rw y at e in
+        absurd (false≢true (rw (y, zero) at (and-left (not (eqb (r .number) 0 && r .applies)) (numbered rs) n))))
+        (λ (y : r .applies ≡ false). y ⨾ to rs (and-right (not (eqb (r .number) 0 && r .applies)) (numbered rs) n) (rw y at e))
 
     from : {rs : List Reason} → NoneApplies rs → first rs ≡ 0
     from end = refl
     from (y ⨾ h) = rw y (from h)
+
+ascending-numbered : (j : ℕ) (l : List Reason) → ascending j (numbers l) ≡ true → numbered l ≡ true
+unfolding numbered
+ascending-numbered j [] up = refl
+ascending-numbered j (r ∷ rs) up =
+    rw (ne-eqb (r .number) 0 (λ z. omega (arith, ascending-head j (r .number) (numbers rs) up)))
+    (ascending-numbered (r .number) rs (ascending-tail j (r .number) (numbers rs) up))
+
+-- so it is where the numbers ascend
+pub first-zero : (j : ℕ) (l : List Reason) → ascending j (numbers l) ≡ true → (first l ≡ 0) ↔ NoneApplies l
+first-zero j l up = first-none l (ascending-numbered j l up)
+
+-- the answer is not above a bound of all numbers
+first-most : (b : ℕ) (l : List Reason) → all (λ k. leb k b) (numbers l) ≡ true → first l ≤ b
+unfolding first all
+first-most b [] h = omega arith
+first-most b (r ∷ rs) h =
+    by-test (r .applies)
+    (λ (y : r .applies ≡ true). rw y (leb-true (r .number) b (and-left (leb (r .number) b) (all (λ k. leb k b) (numbers rs)) h)))
+    (λ (y : r .applies ≡ false). rw y (first-most b rs (and-right (leb (r .number) b) (all (λ k. leb k b) (numbers rs)) h)))
 
 -- none of two lists applies: none of the one, and none of the other
 pub none-split : (k l : List Reason) → NoneApplies (k ++ l) → NoneApplies k × NoneApplies l
@@ -197,19 +225,27 @@ part-passed n m table round = first-zero 0 (partReasons n m table round) (part-a
 pub vote-passed : (q list : ℕ) → (voteRefusal q list ≡ 0) ↔ NoneApplies (voteReasons q list)
 vote-passed q list = first-zero 0 (voteReasons q list) (vote-ascend q list)
 
--- ---- one list after another
+-- the numbers of the settings are 7 at the most
+pub settings-most : (s : Settings) → settingsRefusal s ≤ 7
+unfolding settingsReasons all
+settings-most s = first-most 7 (settingsReasons s) refl
 
--- a number that the first part gives is the whole list's
-pub first-front : (k l : List Reason) → (first k ≡ 0 → ⊥) → first k ≡ first (k ++ l)
+-- ---- one list before another: k is what the first one gives
+
+-- a number is that of both lists
+pub front-stands : (l rest : List Reason) (k : ℕ) → k ≡ first l → k ≢ 0 → k ≡ first (l ++ rest)
 unfolding first
-first-front [] l h = absurd (h refl)
-first-front (r ∷ k) l h =
+front-stands [] rest k e some = absurd (some e)
+front-stands (r ∷ l) rest k e some =
     by-test (r .applies)
-    (λ (e : r .applies ≡ true). rw e)
-    (λ (e : r .applies ≡ false). rw e (first-front k l (rw e at h)))
+    (λ (y : r .applies ≡ true). rw y (rw y at e))
+    (λ (y : r .applies ≡ false). rw y (front-stands l rest k (rw y at e) some))
 
--- where the first part gives none, the rest decides
-pub first-rest : {k : List Reason} → NoneApplies k → (l : List Reason) → first (k ++ l) ≡ first l
+-- and where there is none, the second list decides
+pub rest-decides : (l rest : List Reason) (k : ℕ) → ascending 0 (numbers l) ≡ true → k ≡ first l → k ≡ 0 → first (l ++ rest) ≡ first rest
 unfolding first
-first-rest end l = refl
-first-rest (y ⨾ h) l = rw y (first-rest h l)
+rest-decides l rest k up e z = past (first-zero 0 l up .0 (sym e ∙ z))
+  where
+    past : {rs : List Reason} → NoneApplies rs → first (rs ++ rest) ≡ first rest
+    past end = refl
+    past (y ⨾ h) = rw y (past h)

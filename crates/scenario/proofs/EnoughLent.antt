@@ -8,12 +8,13 @@ use Prim.Native.Nat.{ℕ, _*_, _≤_}
 use native.Mathlib.Omega.{arith}
 use lib.ListN.{length, replicate, length-replicate}
 use lib.Dec.{eqb}
-use borrow.Author.Tests.{eqb-true, le-ltb, not-false}
+use borrow.Author.Tests.{eqb-true, eqb-false, le-ltb, not-false}
 use Rattle.rules.specs.Cells.{cells}
 use Rattle.rules.specs.Refusals.{Reason, because, first, settingsReasons, settingsRefusal}
 use Rattle.rules.proofs.WordRows.{put-length}
 use Rattle.rules.specs.declared.Settings.{Settings}
 use Rattle.rules.proofs.Counting.{by-test}
+use Rattle.rules.proofs.Refused.{settings-ascend, settings-most, front-stands, rest-decides}
 use Rattle.scenario.specs.Hex.{frameOf}
 use Rattle.scenario.specs.Frames.{kindOf, settingsIn, wordTold}
 use Rattle.scenario.specs.Marks.{bitsOf}
@@ -25,7 +26,6 @@ use Rattle.scenario.specs.declared.Reader.{Reader}
 use Rattle.scenario.proofs.Outcomes.{Outcome, stays, refuses, opens, tells, closes, outcome, Placed, opening, telling, closing, placed}
 use Rattle.scenario.proofs.FromStart.{cells-few, settings-known}
 use Rattle.scenario.proofs.Marking.{marks-length}
-use Rattle.scenario.proofs.Refusals.{first-then, first-below, settings-numbered}
 
 -- so much is enough for N=15, m=3, and so for every accepted layout
 pub record Ample (d : Desk) : Type 0 where
@@ -63,10 +63,13 @@ module _ (d : Desk) (a : Ample d) where
   unfolding openReasons
   own-open frame =
       let s = settingsIn frame in
-      rw (first-then 7 (settingsReasons s) (lentFor s d) (settings-numbered s))
-      (by-test (eqb (settingsRefusal s) 0)
-      (λ (e : eqb (settingsRefusal s) 0 ≡ true). rw e (own-lent s (eqb-true (settingsRefusal s) 0 e)))
-      (λ (e : eqb (settingsRefusal s) 0 ≡ false). rw e (below-eight (settingsRefusal s) (first-below 7 (settingsReasons s) (settings-numbered s)))))
+      by-test (eqb (settingsRefusal s) 0)
+      (λ (e : eqb (settingsRefusal s) 0 ≡ true).
+      let pass = eqb-true (settingsRefusal s) 0 e in
+      rw (rest-decides (settingsReasons s) (lentFor s d) (settingsRefusal s) (settings-ascend s) refl pass) (own-lent s pass))
+      (λ (e : eqb (settingsRefusal s) 0 ≡ false).
+      rw (← front-stands (settingsReasons s) (lentFor s d) (settingsRefusal s) refl (eqb-false (settingsRefusal s) 0 e))
+      (below-eight (settingsRefusal s) (settings-most s)))
 
   own-kind : (frame : List ℕ) → Placed (stageOf (d .reader)) (kindOf frame) → Own (first (kindReasons d frame))
   unfolding kindReasons tellReasons closeReasons
