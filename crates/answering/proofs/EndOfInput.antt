@@ -20,20 +20,16 @@ use Rattle.scenario.specs.Feeding.{lineHeld, finished}
 use Rattle.answering.specs.Finish.{outAfter, lengthAfter, Playable}
 use Rattle.scenario.specs.declared.Reader.{Reader}
 use Rattle.scenario.proofs.Outcomes.{passed}
-use Rattle.reasons.proofs.KindCascade.{cells-few}
+use Rattle.scenario.proofs.FromStart.{settings-known}
+use Rattle.rules.proofs.Growth.{cells-few}
 
 -- a reader at a stage has accepted settings
 pub stage-settled : (r : Reader) (stage : ℕ) → stage ≡ stageOf r → stage ≡ 2 → settingsRefusal (r .settings) ≡ 0
-unfolding stageOf
-stage-settled r stage is e =
-    let k = settingsRefusal (r .settings) in
-    by-test (eqb k 0)
-    (λ (z : eqb k 0 ≡ true). eqb-true k 0 z)
-    (λ (z : eqb k 0 ≡ false). absurd (let none : 0 ≡ 2 = rw z at (sym is ∙ e) in omega arith))
+stage-settled r stage is e = settings-known r (omega arith)
 
 -- and few cells
 pub cells-doubled : (r : Reader) (stage : ℕ) → stage ≡ stageOf r → stage ≡ 2 → (k : ℕ) → k ≡ cells (r .settings .n) (r .settings .m) → Fits w64 (2 * k)
-cells-doubled r stage is e k many = record { fits = omega (arith, cells-few (r .settings) k many (stage-settled r stage is e)) }
+cells-doubled r stage is e k many = record { fits = omega (arith, cells-few (r .settings) (stage-settled r stage is e)) }
 
 -- the refused line is the last that was judged
 pub line-refused : (r : Reader) → (r .refusal ≡ 0 → ⊥) → r .lines ≡ refusedLine r

@@ -15,7 +15,7 @@ use Rattle.rules.proofs.Numbering.{cell-lt}
 use Rattle.rules.proofs.Accepted.{ExchangeAccepted, settings-accepted, exchange-accepted}
 use Rattle.rules.specs.declared.Settings.{Settings}
 use Rattle.exchange.specs.Ready.{Played}
-use Rattle.exchange.proofs.Refusing
+use Rattle.rules.proofs.Growth.{cells-few}
 
 -- ---- a refused call
 
@@ -59,7 +59,7 @@ module _ (s : Settings) (t row : List ℕ) (k : ℕ) (e : k ≡ exchangeRefusal 
 
     -- and M fits 32 bits
     pub messages-fit : Fits w32 (length t / 2)
-    messages-fit = record { fits = omega (arith, Refusing.cells-fit s settings-pass (length t / 2) messages-are) }
+    messages-fit = record { fits = omega (arith, messages-are, cells-few s settings-pass) }
 
     -- the row that was played is the row that is due
     pub played-row : (s′ : Settings) (row′ : List ℕ) → s′ ≡ s → row′ ≡ rowOf s′ t → row′ ≡ rowAfter s t row

@@ -1,5 +1,5 @@
 -- The lengths are judged after the settings: one law for each answer, over the tests passed before it.
-use Prim.Native.Nat.{ℕ, _*_, _≤_}
+use Prim.Native.Nat.{ℕ, _*_}
 use mathlib.Core.Path.{_≡_, sym, _∙_}
 use mathlib.Core.List.{[], _∷_}
 use native.Mathlib.Omega.{arith}
@@ -9,8 +9,8 @@ use borrow.Author.Tests.{eq-eqb, ne-eqb}
 use Rattle.rules.specs.Cells.{cells}
 use Rattle.rules.specs.Refusals.{because, first, wrongTable, wrongRow, settingsReasons, settingsRefusal, exchangeReasons, exchangeRefusal}
 use Rattle.rules.proofs.Refused.{settings-ascend, front-stands, rest-decides}
-use Rattle.rules.proofs.Accepted.{SettingsAccepted, settings-accepted, layout-of}
-use Rattle.rules.proofs.Growth.{messages-most}
+use Rattle.rules.proofs.Accepted.{SettingsAccepted, settings-accepted}
+use Rattle.rules.proofs.Growth.{cells-few}
 use Rattle.rules.specs.declared.Settings.{Settings}
 
 -- ---- the two lengths, judged after the settings
@@ -57,10 +57,6 @@ module _ (s : Settings) (pass : settingsRefusal s ≡ 0) where
   pub sender-fits : Fits w8 (s .sender)
   sender-fits = record { fits = omega (arith, facts .sender-below, facts .fifteen) }
 
-  -- M is 26,404 at the most
-  pub cells-fit : (c : ℕ) → c ≡ cells (s .n) (s .m) → c ≤ 26404
-  cells-fit c e = omega (arith, e, messages-most (s .n) (s .m) (layout-of s facts))
-
 -- two bytes a message
 pub cells-scaled : (s : Settings) (k c : ℕ) → k ≡ settingsRefusal s → k ≡ 0 → c ≡ cells (s .n) (s .m) → Fits w64 (2 * c)
-cells-scaled s k c e z ec = record { fits = omega (arith, cells-fit s (sym e ∙ z) c ec) }
+cells-scaled s k c e z ec = record { fits = omega (arith, cells-few s (sym e ∙ z)) }

@@ -19,7 +19,6 @@ use Rattle.rules.specs.declared.CellFound.{CellFound}
 use Rattle.rules.proofs.Counting.{by-test}
 use Rattle.rules.proofs.Refused.{settings-ascend, settings-most, front-stands, rest-decides}
 use Rattle.rules.proofs.Accepted.{settings-accepted, layout-of, route-accepted}
-use Rattle.rules.proofs.Growth.{messages-most}
 use Rattle.scenario.specs.Frames.{settingsIn, routeIn, countIn, kindOf}
 use Rattle.scenario.specs.Marks.{marked}
 use Rattle.scenario.specs.Reasons.{Desk, desk, stageOf, inPlace, outOfPlace, cellIn, routeless, givenBefore, wrongCount, shortTable, shortMarks, lentReasons, openReasons, tellReasons, closeReasons, kindReasons}
@@ -29,10 +28,6 @@ use Rattle.frames.specs.Rows.{frameRow}
 use Rattle.frames.proofs.FrameRows.{row-byte, settings-row, route-row, count-row}
 
 -- ---- 8 and 10
-
--- accepted settings have few cells
-pub cells-few : (s : Settings) (k : ℕ) → k ≡ cells (s .n) (s .m) → settingsRefusal s ≡ 0 → k ≤ 26404
-cells-few s k e ok = rw e (messages-most (s .n) (s .m) (layout-of s (settings-accepted s .0 ok)))
 
 module _ (s : Settings) (table marks : ℕ) (k : ℕ) (is : k ≡ cells (s .n) (s .m)) where
   -- a table of too few bytes is refused with 8

@@ -1,10 +1,11 @@
 -- The refusals of a whole line as the code finds them: one law for each answer, over the tests passed before it.
 use mathlib.Core.Path.{_≡_, sym, ap, _∙_}
+use mathlib.Core.Logic.{inl, inr}
 use mathlib.Core.Bool.{Bool, true, false, not, or-false}
 use mathlib.Core.List.{List, map}
 use Prim.Native.Nat.{ℕ, _/_, _≤_, _<_}
 use borrow.Author.Needs.{length-unmapped}
-use borrow.Author.Tests.{eq-eqb, ne-eqb, lt-ltb, le-ltb}
+use borrow.Author.Tests.{eq-eqb, ne-eqb}
 use lib.ListN.{length, take, getD}
 use lib.Dec.{eqb}
 use Rattle.rules.specs.Refusals.{first, settingsRefusal}
@@ -16,6 +17,7 @@ use Rattle.frames.specs.Rows.{frameRow}
 use Rattle.reasons.specs.Steps.{kindRefusal}
 use Rattle.scenario.specs.declared.Reader.{Reader}
 use Rattle.scenario.proofs.Hexadecimal.{length-frame}
+use Rattle.scenario.proofs.LineTable.{stage-said, stage-forged}
 use Rattle.frames.proofs.FrameRows.{row-byte, size-row, framed, held-short}
 use Rattle.reasons.proofs.KindCascade.{kind-row}
 
@@ -24,18 +26,15 @@ use Rattle.reasons.proofs.KindCascade.{kind-row}
 module _ (r : Reader) (k : ℕ) (is : k ≡ settingsRefusal (r .settings)) where
   -- settings that would be refused: no `01` line was met
   pub stage-none : (k ≡ 0 → ⊥) → 0 ≡ stageOf r
-  unfolding stageOf
-  stage-none h = rw (← is, ne-eqb k 0 h)
-
-  -- nor was one at a stage that is none
-  pub stage-unknown : k ≡ 0 → 3 ≤ r .stage → 0 ≡ stageOf r
-  unfolding stageOf
-  stage-unknown z h = rw (← is, z, le-ltb (r .stage) 3 h)
+  stage-none h = sym (stage-forged r (inl (rw is at h)))
 
   -- else the reader is at the stage that it says
   pub stage-known : k ≡ 0 → r .stage < 3 → r .stage ≡ stageOf r
-  unfolding stageOf
-  stage-known z h = rw (← is, z, lt-ltb (r .stage) 3 h)
+  stage-known z h = sym (stage-said r (sym is ∙ z) h)
+
+-- nor was one met at a stage that is none
+pub stage-unknown : (r : Reader) → 3 ≤ r .stage → 0 ≡ stageOf r
+stage-unknown r h = sym (stage-forged r (inr h))
 
 module _ (stage kind : ℕ) where
   -- first only an `01` line is in its place

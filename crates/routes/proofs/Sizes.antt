@@ -1,5 +1,5 @@
 -- How many routes and cells there can be for at most 15 nodes and 4 numbers: so few that every sum of the code fits.
-use mathlib.Core.Path.{_≡_}
+use mathlib.Core.Path.{refl}
 use Prim.Native.Nat.{ℕ, suc, _+_, _*_, _-_, _≤_, _<_}
 use native.Mathlib.Omega.{arith}
 use native.Mathlib.Nat.{mul-le-mul}
@@ -8,19 +8,11 @@ use mir.Syntax.{w64}
 use mir.Val.{Fits}
 use Rattle.rules.specs.Cells.{routesOf, cellsBefore}
 use Rattle.rules.proofs.Numbering.{cells-step}
-use Rattle.rules.proofs.Growth.{cells-grow}
-
--- 15 nodes and 4 rounds have 26,404
-cells-most : (n k : ℕ) → n ≤ 15 → k ≤ 4 → cellsBefore n k ≤ 26404
-unfolding cellsBefore routesOf
-cells-most n k few deep = cells-grow n 15 k 4 few deep
-
-pub cells-few : (n k b : ℕ) → b ≡ cellsBefore n k → n ≤ 15 → k ≤ 4 → b ≤ 26404
-cells-few n k b e few deep = rw e (cells-most n k few deep)
+use Rattle.rules.proofs.Growth.{cells-most}
 
 -- the routes of a length are part of the cells
 pub routes-most : (n k : ℕ) → n ≤ 15 → k < 4 → routesOf n (k + 1) ≤ 26404
-routes-most n k few deep = rw add-one (omega (arith, cells-step n k, cells-most n (suc k) few deep))
+routes-most n k few deep = rw add-one (omega (arith, cells-step n k, cells-most n (suc k) (cellsBefore n (suc k)) refl few deep))
 
 -- ---- the routes of 2, 3 and 4 numbers, multiplied out, and their sums, as the code has them
 

@@ -4,8 +4,10 @@ use Prim.Native.Nat.{ℕ, zero, suc, _+_, _*_, _≤_}
 use native.Mathlib.Nat.{mul-le-mul}
 use native.Mathlib.Omega.{arith}
 use Rattle.rules.specs.Cells.{routesOf, cellsBefore, cells}
+use Rattle.rules.specs.Refusals.{settingsRefusal}
+use Rattle.rules.specs.declared.Settings.{Settings}
 use Rattle.rules.proofs.Numbering.{ascends, cells-ascend}
-use Rattle.rules.proofs.Accepted.{LayoutAccepted}
+use Rattle.rules.proofs.Accepted.{LayoutAccepted, settings-accepted, layout-of}
 
 -- ---- cells
 
@@ -20,17 +22,21 @@ wider n n′ zero h = omega arith
 wider n n′ (suc k) h = omega (arith, wider n n′ k h, routes-grow n n′ (suc k) h)
 
 -- more nodes or more rounds have no fewer cells
-pub cells-grow : (n n′ k k′ : ℕ) → n ≤ n′ → k ≤ k′ → cellsBefore n k ≤ cellsBefore n′ k′
+cells-grow : (n n′ k k′ : ℕ) → n ≤ n′ → k ≤ k′ → cellsBefore n k ≤ cellsBefore n′ k′
 cells-grow n n′ k k′ h h′ = omega (arith, wider n n′ k h, cells-ascend n′ k k′ h′)
 
-cells-most : cells 15 3 ≡ 26404
-unfolding cells cellsBefore routesOf
-cells-most = refl
+-- 15 nodes and 4 rounds have 26,404
+pub cells-most : (n k b : ℕ) → b ≡ cellsBefore n k → n ≤ 15 → k ≤ 4 → b ≤ 26404
+unfolding cellsBefore routesOf
+cells-most n k b e few deep = rw e (cells-grow n 15 k 4 few deep)
 
--- M is 26,404 at the most
+-- so M is 26,404 at the most
 pub messages-most : (n m : ℕ) → LayoutAccepted n m → cells n m ≤ 26404
 unfolding cells
-messages-most n m ok = omega (arith, cells-most, cells-grow n 15 (m + 1) 4 (ok .fifteen) (omega (arith, ok .three)))
+messages-most n m ok = cells-most n (m + 1) (cells n m) refl (ok .fifteen) (omega (arith, ok .three))
+
+pub cells-few : (s : Settings) → settingsRefusal s ≡ 0 → cells (s .n) (s .m) ≤ 26404
+cells-few s pass = messages-most (s .n) (s .m) (layout-of s (settings-accepted s .0 pass))
 
 -- ---- ties
 

@@ -17,7 +17,8 @@ use Rattle.scenario.specs.File.{fresh, begun, fileJudged, cutShort, endR
 use Rattle.scenario.specs.declared.Reader.{Reader}
 use Rattle.scenario.proofs.Outcomes.{Opens, Tells, Closes, Outcome, stays, refuses, opens, tells, closes, outcome}
 use Rattle.scenario.proofs.Pieces.{all-stopped}
-use Rattle.scenario.proofs.FromStart.{stage-first, stage-known, settings-known}
+use Rattle.scenario.proofs.FromStart.{stage-first, settings-known}
+use Rattle.scenario.proofs.LineTable.{stage-said}
 
 -- the `02` lines and the `03` line that are accepted one after another from one desk to another
 pub data Run : Desk → List (List ℕ) → Desk → Type 0 where
@@ -71,8 +72,8 @@ run d (line ∷ lines) one end = by (outcome d line) (λ one′. run (judged d l
     by (refuses e k to) rest = absurd (stuck (judged d line) lines (rw to (refused-stops d line k)) end)
     by (opens e o to) rest = absurd (omega (arith, o .place))
     by (tells e t to) rest =
-        rw to (next t (rw to at (rest (rw to (stage-known (told d (frameOf line) .reader) known (omega arith))))))
-    by (closes e c to) rest = alone to c (nothing-after (closed d) lines (stage-known (closed d .reader) known (omega arith)) (end-at to))
+        rw to (next t (rw to at (rest (rw to (stage-said (told d (frameOf line) .reader) known (omega arith))))))
+    by (closes e c to) rest = alone to c (nothing-after (closed d) lines (stage-said (closed d .reader) known (omega arith)) (end-at to))
 
 -- ---- the whole file
 
@@ -110,7 +111,7 @@ first-line table marks (line ∷ lines) end = by (outcome d line)
     by (stays e to) = absurd (false≢true e)
     by (refuses e k to) = absurd (stuck (judged d line) lines (rw to (refused-stops d line k)) end)
     by (opens e o to) =
-        let one : stageOf (judged d line .reader) ≡ 1 = rw to (stage-known (opened d (frameOf line) .reader) (o .settings) (omega arith)) in
+        let one : stageOf (judged d line .reader) ≡ 1 = rw to (stage-said (opened d (frameOf line) .reader) (o .settings) (omega arith)) in
         record { opening = line; later = lines; cut = refl; opens = o; runs = rw to (rw to at (run (judged d line) lines one end)) }
     by (tells e t to) = absurd (omega (arith, stage-first fresh refl, t .place))
     by (closes e c to) = absurd (omega (arith, stage-first fresh refl, c .place))

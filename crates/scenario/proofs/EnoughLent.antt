@@ -12,6 +12,7 @@ use borrow.Author.Tests.{eqb-true, eqb-false, le-ltb, not-false}
 use Rattle.rules.specs.Cells.{cells}
 use Rattle.rules.specs.Refusals.{Reason, because, first, settingsReasons, settingsRefusal}
 use Rattle.rules.proofs.WordRows.{put-length}
+use Rattle.rules.proofs.Growth.{cells-few}
 use Rattle.rules.specs.declared.Settings.{Settings}
 use Rattle.rules.proofs.Counting.{by-test}
 use Rattle.rules.proofs.Refused.{settings-ascend, settings-most, front-stands, rest-decides}
@@ -24,7 +25,7 @@ use Rattle.scenario.specs.Lines.{linesOf, restOf}
 use Rattle.scenario.specs.File.{fresh, begun, fileJudged, cutShort, endReasons, endRefusal, fileRefusal}
 use Rattle.scenario.specs.declared.Reader.{Reader}
 use Rattle.scenario.proofs.Outcomes.{Outcome, stays, refuses, opens, tells, closes, outcome, Placed, opening, telling, closing, placed}
-use Rattle.scenario.proofs.FromStart.{cells-few, settings-known}
+use Rattle.scenario.proofs.FromStart.{settings-known}
 use Rattle.scenario.proofs.Marking.{marks-length}
 
 -- so much is enough for N=15, m=3, and so for every accepted layout

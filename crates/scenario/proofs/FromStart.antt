@@ -18,8 +18,8 @@ use Rattle.rules.specs.declared.Settings.{Settings}
 use Rattle.rules.proofs.Counting.{by-test, one-fewer, complement, length-upTo, length-keep, keep-none}
 use Rattle.rules.proofs.WordRows.{put-length}
 use Rattle.rules.proofs.Numbering.{cell-lt}
-use Rattle.rules.proofs.Accepted.{settings-accepted, layout-of}
-use Rattle.rules.proofs.Growth.{messages-most}
+use Rattle.rules.proofs.Accepted.{settings-accepted}
+use Rattle.rules.proofs.Growth.{cells-few}
 use Rattle.scenario.specs.Hex.{frameOf}
 use Rattle.scenario.specs.Frames.{settingsIn, routeIn, wordTold}
 use Rattle.scenario.specs.Marks.{marked, mark, bitsOf}
@@ -27,6 +27,7 @@ use Rattle.scenario.specs.Reasons.{Desk, stageOf, stopped, cellIn, lineR
 use Rattle.scenario.specs.Judging.{oneMore, after, opened, told, closed, refusedWith, judged, judgedAll}
 use Rattle.scenario.specs.File.{fresh, begun}
 use Rattle.scenario.specs.declared.Reader.{Reader}
+use Rattle.scenario.proofs.LineTable.{stage-said}
 use Rattle.scenario.proofs.Marking.{mark-same, mark-other, marks-length, unmarked}
 use Rattle.scenario.proofs.Outcomes.{Enough, Opens, Tells, Outcome, stays, refuses, opens, tells, closes, outcome}
 
@@ -43,9 +44,6 @@ markCount s marks = count (marked marks) (upTo (cellCount s))
 marks-most : (s : Settings) (marks : List ℕ) → markCount s marks ≤ cellCount s
 unfolding markCount
 marks-most s marks = omega (arith, complement (marked marks) (upTo (cellCount s)), length-upTo (cellCount s))
-
-pub cells-few : (s : Settings) → settingsRefusal s ≡ 0 → cellCount s ≤ 26404
-cells-few s e = messages-most (s .n) (s .m) (layout-of s (settings-accepted s .0 e))
 
 none-marked : (s : Settings) (k : ℕ) → markCount s (replicate k 0) ≡ 0
 unfolding markCount
@@ -67,10 +65,6 @@ stage-first r e =
     by-test (eqb (settingsRefusal (r .settings)) 0 && ltb (r .stage) 3)
     (λ (t : (eqb (settingsRefusal (r .settings)) 0 && ltb (r .stage) 3) ≡ true). rw t e)
     (λ (t : (eqb (settingsRefusal (r .settings)) 0 && ltb (r .stage) 3) ≡ false). rw t)
-
-pub stage-known : (r : Reader) → settingsRefusal (r .settings) ≡ 0 → r .stage ≤ 2 → stageOf r ≡ r .stage
-unfolding stageOf
-stage-known r e h = rw (e, lt-ltb (r .stage) 3 (omega arith))
 
 -- a reader past its `01` line has settings that are accepted
 pub settings-known : (r : Reader) → 1 ≤ stageOf r → settingsRefusal (r .settings) ≡ 0
@@ -171,7 +165,7 @@ module _ (k : ℕ) (d : Desk) (line : List ℕ) where
   opened-step o = by (outcome d line)
     where
       stage : stageOf (d .reader) ≡ d .reader .stage
-      stage = stage-known (d .reader) (o .settings) (o .most)
+      stage = stage-said (d .reader) (o .settings) (omega (arith, o .most))
 
       few : d .reader .given ≤ 26404
       few = given-most k d o

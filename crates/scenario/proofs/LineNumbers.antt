@@ -14,7 +14,8 @@ use Rattle.scenario.specs.File.{fresh, begun, fileJudged, endReasons, re
 use Rattle.scenario.proofs.Refusals.{line-small}
 use Rattle.scenario.proofs.Pieces.{all-stopped}
 use Rattle.scenario.proofs.Outcomes.{Outcome, stays, refuses, opens, tells, closes, outcome}
-use Rattle.scenario.proofs.FromStart.{Sound, unopened, reading, halted, stage-first, stage-known, from-start, given-most, one-more}
+use Rattle.scenario.proofs.LineTable.{stage-said}
+use Rattle.scenario.proofs.FromStart.{Sound, unopened, reading, halted, stage-first, from-start, given-most, one-more}
 
 module _ (table marks : List ℕ) where
   -- the desk after so many lines
@@ -53,7 +54,7 @@ module _ (table marks : List ℕ) where
     where
       by : Sound (length lines) (desk lines) → desk lines .reader .given + 2 ≡ length lines
       by (unopened e stage given none k) = absurd (omega (arith, stage-first (desk lines .reader) stage))
-      by (reading o) = omega (arith, o .exact, o .lines, stage-known (desk lines .reader) (o .settings) (o .most))
+      by (reading o) = omega (arith, o .exact, o .lines, stage-said (desk lines .reader) (o .settings) (omega (arith, o .most)))
       by (halted stop few given) = absurd (true≢false (sym stop ∙ going))
 
   -- while none is refused there is room for one more

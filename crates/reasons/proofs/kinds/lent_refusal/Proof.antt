@@ -1,7 +1,8 @@
 -- `reasons::kinds::lent_refusal` meets its contract.
 use native.Mathlib.Omega.{arith}
+use Rattle.rules.proofs.Growth.{cells-few}
 use Rattle.settings.proofs.Depths.{settings-deep}
-use Rattle.reasons.proofs.KindCascade.{cells-few, short-table, short-marks, lent-enough}
+use Rattle.reasons.proofs.KindCascade.{short-table, short-marks, lent-enough}
 use borrow.Author.Needs.{needs}
 use Rattle.reasons.proofs.kinds.lent_refusal.Statement.{statement}
 use Rattle.reasons.proofs.kinds.lent_refusal.Tie as tie
@@ -10,7 +11,7 @@ message-count-requires : tie.Need-message-count-requires
 message-count-requires c κs = search settings-deep
 
 mul-if1 : tie.Need-mul-if1
-mul-if1 c = omega (arith, cells-few _ _ (c .message-count .ensures) (c .before .pre))
+mul-if1 c = omega (arith, c .message-count .ensures, cells-few _ (c .before .pre))
 
 returns : tie.Need-returns
 returns c = search short-table

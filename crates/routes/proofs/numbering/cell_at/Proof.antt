@@ -1,7 +1,7 @@
 -- `routes::cell_at` meets its contract: the cells of earlier rounds, and the route's place in its own.
 use native.Mathlib.Omega.{arith}
 use borrow.Author.Needs.{needs}
-use Rattle.routes.proofs.Sizes.{cells-few}
+use Rattle.rules.proofs.Growth.{cells-most}
 use Rattle.routes.proofs.Digits.{rank-few, cell-sum}
 use Rattle.routes.proofs.numbering.cell_at.Statement.{statement}
 use Rattle.routes.proofs.numbering.cell_at.Tie as tie
@@ -21,7 +21,7 @@ rank-of-requires c κs = search needs
 add-result : tie.Need-add-result
 add-result c =
     let given = c .before .before .before in
-    omega (arith, cells-few _ _ _ (c .before .cells-before .ensures) (given .pre .few) (omega arith), rank-few _ _ _ _ (given .pre) (c .rank-of .ensures))
+    omega (arith, cells-most _ _ _ (c .before .cells-before .ensures) (given .pre .few) (omega arith), rank-few _ _ _ _ (given .pre) (c .rank-of .ensures))
 
 returns : tie.Need-returns
 returns c = search cell-sum
