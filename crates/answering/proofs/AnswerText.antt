@@ -67,7 +67,7 @@ text-append (x ∷ xs) ys = rw (text-append xs ys, append-assoc)
 -- ---- a refusal's line
 
 -- the text of a refusal is its one line
-pub refusal-text : (k line : ℕ) → textOf (refusalFrame k line ∷ []) ≡ lineOf (refusalFrame k line)
+refusal-text : (k line : ℕ) → textOf (refusalFrame k line ∷ []) ≡ lineOf (refusalFrame k line)
 unfolding textOf
 refusal-text k line = append-nil (lineOf (refusalFrame k line))
 

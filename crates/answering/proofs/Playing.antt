@@ -100,7 +100,7 @@ module _ (s : Settings) (table : List ℕ) where
       ∙ sym (map-append (nodeFrame s table) (upTo n) (n ∷ []))
 
   -- the answer is the nodes' lines and the summary's
-  pub played-text : textOf (playedFrames s table) ≡ rowText s (playedWith s table .row) (s .n) ++ lineOf (summaryFrame (played s table))
+  played-text : textOf (playedFrames s table) ≡ rowText s (playedWith s table .row) (s .n) ++ lineOf (summaryFrame (played s table))
   unfolding playedFrames rowText textOf
   played-text = rw (text-append, frames-below (s .n) (omega arith), append-nil)
 

@@ -24,7 +24,7 @@ digits-append [] ys = refl
 digits-append (b ∷ xs) ys = ap (λ l. digitOf (b / 16) ∷ digitOf (b % 16) ∷ l) (digits-append xs ys)
 
 -- where the first i bytes of a frame are written, so long a text is
-pub digits-long : (frame : List ℕ) (i : ℕ) → i ≤ length frame → length (digitsOf (take i frame)) ≡ 2 * i
+digits-long : (frame : List ℕ) (i : ℕ) → i ≤ length frame → length (digitsOf (take i frame)) ≡ 2 * i
 digits-long frame i h = rw (length-digits, length-take-le i frame h)
 
 -- a turn of the loop: one more byte of the frame, two more digits

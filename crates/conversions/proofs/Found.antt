@@ -1,13 +1,13 @@
 -- From a cell to its route, as the code goes: the round, the d-th receiver, and one number more in a row.
 use mathlib.Core.Path.{_≡_, refl, sym, _∙_}
 use mathlib.Core.Bool.{Bool, true, false, cond}
-use mathlib.Core.List.{List, [], _∷_, _++_, append-assoc}
+use mathlib.Core.List.{List, [], _∷_, append-assoc}
 use Prim.Native.Nat.{ℕ, zero, suc, _+_, _-_, _/_, _%_, _≤_, _<_}
 use native.Mathlib.Omega.{arith}
 use native.Mathlib.Decide.{ℕ-discrete}
 use native.Mathlib.Numerals.{add-one, sub-one}
-use lib.ListN.{length, getD, set, replicate, List·getD-append, List·getD-eq-default}
-use lib.Seq.{getD-at, set-at}
+use lib.ListN.{length, getD, set, replicate, List·getD-eq-default}
+use lib.Seq.{set-at}
 use lib.Dec.{ltb}
 use borrow.Author.Tests.{lt-ltb, le-ltb}
 use Rattle.rules.specs.Lists.{bit, count, keep, upTo}
@@ -15,9 +15,9 @@ use Rattle.rules.specs.Routes.{held, written, receiver, receivers}
 use Rattle.rules.specs.Cells.{cellsBefore, roundOf, unrank}
 use Rattle.rules.specs.Answers.{rowOfRoute}
 use Rattle.rules.specs.declared.Route as R
-use Rattle.rules.proofs.Counting.{count-upTo, length-keep, keep-append}
+use Rattle.rules.proofs.Counting.{count-upTo, length-keep}
 use Rattle.rules.proofs.Numbering.{count-past}
-use Rattle.rules.proofs.Inverse.{length-unrank}
+use Rattle.rules.proofs.Inverse.{keep-first, keep-last, length-unrank}
 use Rattle.rules.proofs.Rows.{length-written, held-row}
 
 -- ---- the round of a cell
@@ -52,15 +52,12 @@ module _ (n m c : ℕ) where
 
 -- a number that passes a test stands among those that do behind as many as pass below it
 keep-at : (P : ℕ → Bool) (n x : ℕ) → x < n → P x ≡ true → getD (keep P (upTo n)) (count P (upTo x)) 0 ≡ x
-unfolding upTo keep
 keep-at P zero x h e = absurd (omega arith)
 keep-at P (suc n) x h e = go (ℕ-discrete x n) (keep-at P n x)
   where
-    go : Dec (x ≡ n) → (x < n → P x ≡ true → getD (keep P (upTo n)) (count P (upTo x)) 0 ≡ x) → getD (keep P (upTo n ++ (n ∷ []))) (count P (upTo x)) 0 ≡ x
-    go (yes p) rec = rw (← p, keep-append, e) (getD-at (keep P (upTo x)) x [] 0 (count P (upTo x)) (length-keep P (upTo x)))
-    go (no p) rec =
-        let b : count P (upTo x) < length (keep P (upTo n)) = omega (arith, length-keep P (upTo n), count-past P x n (omega arith) e) in
-        rw keep-append (List·getD-append (keep P (upTo n)) (keep P (n ∷ [])) 0 (count P (upTo x)) b ∙ rec (omega arith) e)
+    go : Dec (x ≡ n) → (x < n → P x ≡ true → getD (keep P (upTo n)) (count P (upTo x)) 0 ≡ x) → getD (keep P (upTo (suc n))) (count P (upTo x)) 0 ≡ x
+    go (yes p) rec = keep-last P n (count P (upTo x)) (rw p at e) (rw p) ∙ sym p
+    go (no p) rec = keep-first P n (count P (upTo x)) (omega (arith, count-past P x n (omega arith) e)) ∙ rec (omega arith) e
 
 -- so many receivers are below x, no more than d
 pub record PassedTo (n sender : ℕ) (r : R.Route) (d passed x : ℕ) : Type 0 where

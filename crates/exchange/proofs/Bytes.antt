@@ -2,7 +2,7 @@
 use Prim.Native.Nat.{ℕ, zero, suc, _+_, _*_, _/_, _%_, _<_, _≤_}
 use mathlib.Core.Path.{_≡_, refl, sym, ap, _∙_}
 use mathlib.Core.List.{List, [], _∷_, _++_, map, append-assoc}
-use mathlib.Core.Bool.{Bool, true}
+use mathlib.Core.Bool.{true}
 use native.Mathlib.Omega.{arith}
 use native.Mathlib.Numerals.{add-one}
 use lib.ListN.{length, getD, set, take, length-set}
@@ -10,7 +10,7 @@ use lib.Seq.{take-suc, take-suc-set, take-length}
 use borrow.Author.Tests.{leb-true}
 use Rattle.rules.specs.Lists.{all, upTo}
 use Rattle.rules.specs.Words.{wordAt, plain, wordsOf, bytesOf, putWord}
-use Rattle.rules.proofs.Counting.{and-left, and-right, map-append}
+use Rattle.rules.proofs.Counting.{all-at, map-upTo}
 use Rattle.rules.proofs.Ordinary.{ordinary}
 use Rattle.rules.proofs.WordRows.{length-bytes, word-of-bytes, plain-same}
 
@@ -37,23 +37,13 @@ put-behind bytes ws k w h e =
     let two : 2 * (k + 1) ≡ 2 * k + 2 = omega arith in
     rw (two, two-more bytes (2 * k) (w / 256) (w % 256) h, e) (sym (bytes-snoc ws w))
 
-pub length-put : (bytes : List ℕ) (k w : ℕ) → length (putWord bytes k w) ≡ length bytes
-unfolding putWord
-length-put bytes k w = length-set (set bytes (2 * k) (w / 256)) (2 * k + 1) (w % 256) ∙ length-set bytes (2 * k) (w / 256)
-
 -- ---- read again
-
-all-at : (P : ℕ → Bool) (l : List ℕ) (i : ℕ) → i < length l → all P l ≡ true → P (getD l i 0) ≡ true
-unfolding all
-all-at P [] i h e = absurd (omega arith)
-all-at P (x ∷ l) zero h e = and-left (P x) (all P l) e
-all-at P (x ∷ l) (suc i) h e = all-at P l i (omega arith) (and-right (P x) (all P l) e)
 
 first-words : (ws : List ℕ) (k : ℕ) → k ≤ length ws → all ordinary ws ≡ true → map (λ c. plain (wordAt (bytesOf ws) c)) (upTo k) ≡ take k ws
 unfolding upTo
 first-words ws zero h e = refl
 first-words ws (suc k) h e =
-    rw (map-append, first-words ws k (omega arith) e, word-of-bytes ws k, plain-same (getD ws k 0) (leb-true (getD ws k 0) 65000 (all-at ordinary ws k h e)))
+    rw (map-upTo, first-words ws k (omega arith) e, word-of-bytes ws k, plain-same (getD ws k 0) (leb-true (getD ws k 0) 65000 (all-at ordinary ws k h e)))
     (sym (take-suc ws k 0 h))
 
 pub words-again : (ws : List ℕ) → all ordinary ws ≡ true → wordsOf (bytesOf ws) ≡ ws

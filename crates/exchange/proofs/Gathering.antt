@@ -15,7 +15,8 @@ use Rattle.rules.specs.Routes.{held, receiver, receivers}
 use Rattle.rules.specs.Delivered.{delivered}
 use Rattle.rules.specs.Decision.{via, byz, entries}
 use Rattle.rules.specs.Answers.{rowOfRoute}
-use Rattle.rules.proofs.Counting.{count-upTo, gather-yes, gather-no}
+use Rattle.rules.proofs.Counting.{count-upTo, gather-yes, gather-no, total-snoc}
+use Rattle.rules.proofs.WordRows.{put-length}
 use Rattle.rules.proofs.Receivers.{size, level-size}
 use Rattle.rules.proofs.Numbering.{count-past}
 use Rattle.rules.proofs.Rows.{length-back, held-row}
@@ -87,7 +88,7 @@ held-own s t r used left own bytes bytes′ p eo eb =
     record {
       passed = omega arith;
       places = refl;
-      size = ap length eb ∙ Bytes.length-put bytes 0 own ∙ p .size;
+      size = ap length eb ∙ put-length bytes 0 own ∙ p .size;
       words = rw (eb, eo) (Bytes.put-behind bytes [] 0 (delivered s t (held r)) (omega (arith, p .size)) refl);
       tied = refl;
     }
@@ -115,10 +116,10 @@ module _ (s : Settings) (t : List ℕ) (r : R.Route) (used left : ℕ) (bytes : 
       record {
         passed = omega arith;
         places = rw (add-one j) (omega (arith, en, h .places, count-upTo may j, ap bit f));
-        size = ap length eb ∙ Bytes.length-put bytes entered (d .word) ∙ h .size;
+        size = ap length eb ∙ put-length bytes entered (d .word) ∙ h .size;
         words = rw (add-one j, gather-yes W may j f, eb, ed, en)
             (Bytes.put-behind bytes (delivered s t (held r) ∷ wordsTo s t left (held r) j) entered (W j) (omega (arith, room f, h .size)) (h .words));
-        tied = rw (add-one j, gather-yes T may j f, et, h .tied, ed) (sym (Ties.total-snoc (map T (Ties.asked s (held r) j)) (T j)));
+        tied = rw (add-one j, gather-yes T may j f, et, h .tied, ed) (sym (total-snoc (map T (Ties.asked s (held r) j)) (T j)));
       }
 
   -- one who may not: nothing changes

@@ -1,7 +1,7 @@
 -- The decision row: what each node's slot holds, and what the loop over the nodes has written after each of them.
-use Prim.Native.Nat.{ℕ, suc, _+_, _*_, _^_, _<_, _≤_}
+use Prim.Native.Nat.{ℕ, _+_, _*_, _^_, _<_, _≤_}
 use mathlib.Core.Path.{_≡_, refl, sym, ap, _∙_}
-use mathlib.Core.List.{List, [], _∷_, _++_, map, map-map}
+use mathlib.Core.List.{List, [], _∷_, map, map-map}
 use mathlib.Core.Bool.{Bool, true, false}
 use native.Mathlib.Omega.{arith}
 use native.Mathlib.Nat.{mul-le-mul-right}
@@ -17,9 +17,10 @@ use Rattle.rules.specs.Words.{faulty, bytesOf, putWord}
 use Rattle.rules.specs.Routes.{back, free, isPath}
 use Rattle.rules.specs.Decision.{byz, decision}
 use Rattle.rules.specs.Exchange.{slot, slots, rowOf, tieCount}
-use Rattle.rules.proofs.Counting.{length-upTo, map-append}
+use Rattle.rules.proofs.Counting.{length-upTo, map-upTo, total-snoc}
 use Rattle.rules.proofs.Receivers.{free-cons, is-receiver, path-next}
 use Rattle.rules.proofs.Accepted.{layout-of}
+use Rattle.rules.proofs.WordRows.{put-length}
 use Rattle.rules.proofs.Growth.{tiesMost, ties-most}
 use Rattle.rules.proofs.Summaries.{total-most, slot-ties}
 use Rattle.rules.specs.declared.Settings.{Settings}
@@ -27,7 +28,6 @@ use Rattle.rules.specs.declared.Decided.{Decided}
 use Rattle.exchange.specs.Ready.{Given, Ready, Slotted}
 use Rattle.exchange.proofs.Bytes
 use Rattle.exchange.proofs.Marks
-use Rattle.exchange.proofs.Ties
 
 -- ---- one slot
 
@@ -78,10 +78,6 @@ pub written-none : (s : Settings) (t row : List ℕ) → length row ≡ 2 * s .n
 unfolding upTo total bytesOf
 written-none s t row e = record { passed = omega arith; size = e; bytes = refl; tied = refl }
 
-map-upTo : {A : Type 0} (f : ℕ → A) (i : ℕ) → map f (upTo (suc i)) ≡ map f (upTo i) ++ (f i ∷ [])
-unfolding upTo
-map-upTo f i = map-append f (upTo i) (i ∷ [])
-
 module _ (s : Settings) (t row : List ℕ) (ties i : ℕ) (g : Given s t) (p : Written s t row ties i) where
   -- the ties fit, since there are few of them
   pub written-ties : (d : Decided) → i < s .n → d ≡ slot s t i → Fits w32 (ties + d .ties)
@@ -101,9 +97,9 @@ module _ (s : Settings) (t row : List ℕ) (ties i : ℕ) (g : Given s t) (p : W
       let T : ℕ → ℕ = λ k. slot s t k .ties in
       record {
         passed = omega arith;
-        size = ap length er ∙ Bytes.length-put row at (d .word) ∙ p .size;
+        size = ap length er ∙ put-length row at (d .word) ∙ p .size;
         bytes = rw (er, ea, ed) (Bytes.put-behind row (map W (upTo i)) i (W i) (omega (arith, p .size)) (p .bytes) ∙ rw (add-one i, map-upTo W i));
-        tied = rw (p .tied, add-one i, map-upTo T i, ed) (sym (Ties.total-snoc (map T (upTo i)) (T i)));
+        tied = rw (p .tied, add-one i, map-upTo T i, ed) (sym (total-snoc (map T (upTo i)) (T i)));
       }
 
   -- once all nodes are passed, the ties and the row are whole

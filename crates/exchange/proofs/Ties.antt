@@ -1,15 +1,13 @@
 -- Ties are few: behind every decision, every gathering and every row they fit 32 bits.
 use Prim.Native.Nat.{ℕ, _+_, _*_, _≤_}
-use mathlib.Core.Path.{_≡_}
-use mathlib.Core.List.{List, [], _∷_, _++_, map}
-use mathlib.Core.Bool.{Bool}
+use mathlib.Core.List.{List, map}
 use native.Mathlib.Omega.{arith}
 use native.Mathlib.Nat.{mul-le-mul-right}
 use lib.ListN.{length}
-use Rattle.rules.specs.Lists.{count, keep, upTo, total}
+use Rattle.rules.specs.Lists.{keep, upTo, total}
 use Rattle.rules.specs.Routes.{receiver}
 use Rattle.rules.specs.Decision.{via, byz}
-use Rattle.rules.proofs.Counting.{length-upTo, complement, length-keep, total-append}
+use Rattle.rules.proofs.Counting.{count-most, length-keep}
 use Rattle.rules.proofs.Numbering.{ascends}
 use Rattle.rules.proofs.Accepted.{SettingsAccepted, layout-of}
 use Rattle.rules.proofs.Growth.{tiesMost, ties-most}
@@ -19,15 +17,6 @@ use Rattle.rules.specs.declared.Settings.{Settings}
 -- those below k that may receive beside p
 abbrev pub asked : Settings → List ℕ → ℕ → List ℕ
 asked s p k = keep (receiver (s .n) (s .sender) p) (upTo k)
-
--- no more pass a test than there are
-count-most : (P : ℕ → Bool) (k : ℕ) → count P (upTo k) ≤ k
-count-most P k = omega (arith, complement P (upTo k), length-upTo k)
-
--- a sum with one number more
-pub total-snoc : (l : List ℕ) (b : ℕ) → total (l ++ (b ∷ [])) ≡ total l + b
-unfolding total
-total-snoc l b = rw (total-append l (b ∷ [])) (omega arith)
 
 module _ (s : Settings) (t : List ℕ) (ok : SettingsAccepted s) (k : ℕ) (le : k ≤ s .m) where
   -- with fewer rounds there are no more

@@ -36,11 +36,11 @@ use Rattle.reasons.proofs.KindCascade.{placed, not-placed, opened-before, kind-
 -- ---- an `02` line
 
 -- it has a cell, and there is room for its word and its mark
-pub record Room (s : Settings) (frame table marks : List ℕ) : Type 0 where
-  pub route : routeless s frame ≡ false
-  pub few : byteIn frame 1 ≤ 4
-  pub table-room : 2 * cellIn s frame + 1 < length table
-  pub marks-room : cellIn s frame < bitsOf marks
+record Room (s : Settings) (frame table marks : List ℕ) : Type 0 where
+  route : routeless s frame ≡ false
+  few : byteIn frame 1 ≤ 4
+  table-room : 2 * cellIn s frame + 1 < length table
+  marks-room : cellIn s frame < bitsOf marks
 
 room : (r : Reader) (frame table marks : List ℕ) → Tellable (desk r table marks) frame → Room (r .settings) frame table marks
 unfolding tellReasons lentReasons routeless noRoute shortTable shortMarks cellIn routeIn
@@ -124,10 +124,10 @@ module _ (r : Reader) (frame table marks : List ℕ) where
 -- ---- a whole line
 
 -- what an accepted line passed
-pub record Passed (d : Desk) (line : List ℕ) : Type 0 where
-  pub frame : noFrame line ≡ false
-  pub place : outOfPlace (stageOf (d .reader)) (kindOf (frameOf line)) ≡ false
-  pub kind : kindRefusal d (frameOf line) ≡ 0
+record Passed (d : Desk) (line : List ℕ) : Type 0 where
+  frame : noFrame line ≡ false
+  place : outOfPlace (stageOf (d .reader)) (kindOf (frameOf line)) ≡ false
+  kind : kindRefusal d (frameOf line) ≡ 0
 
 line-passed : (d : Desk) (line : List ℕ) → lineRefusal d line ≡ 0 → Passed d line
 unfolding lineReasons

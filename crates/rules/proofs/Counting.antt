@@ -55,7 +55,7 @@ module _ (P Q R : ℕ → Bool) where
   count-split [] h = omega arith
   count-split (x ∷ L) h = omega (arith, h x, count-split L h)
 
-  pub count-apart : (L : List ℕ) → ((x : ℕ) → bit (P x) + bit (Q x) ≤ bit (R x)) → count P L + count Q L ≤ count R L
+  count-apart : (L : List ℕ) → ((x : ℕ) → bit (P x) + bit (Q x) ≤ bit (R x)) → count P L + count Q L ≤ count R L
   unfolding count
   count-apart [] h = omega arith
   count-apart (x ∷ L) h = omega (arith, h x, count-apart L h)
@@ -193,18 +193,30 @@ unfolding all
 all-le P Q [] h e = refl
 all-le P Q (x ∷ L) h e = and-both (h x (and-left (P x) (all P L) e)) (all-le P Q L h (and-right (P x) (all P L) e))
 
+-- what all entries pass, each of them passes
+pub all-at : (P : ℕ → Bool) (L : List ℕ) (i : ℕ) → i < length L → all P L ≡ true → P (getD L i 0) ≡ true
+unfolding all
+all-at P [] i h e = absurd (omega arith)
+all-at P (x ∷ L) zero h e = and-left (P x) (all P L) e
+all-at P (x ∷ L) (suc i) h e = all-at P L i (omega arith) (and-right (P x) (all P L) e)
+
 -- ---- a sum over a list
 
-pub total-append : (K L : List ℕ) → total (K ++ L) ≡ total K + total L
+-- one entry more
+pub total-snoc : (L : List ℕ) (x : ℕ) → total (L ++ (x ∷ [])) ≡ total L + x
 unfolding total
-total-append [] L = omega arith
-total-append (x ∷ K) L = omega (arith, total-append K L)
+total-snoc [] x = omega arith
+total-snoc (y ∷ L) x = omega (arith, total-snoc L x)
 
 -- the entries that fail a test and those that pass it are all entries
 pub complement : (P : ℕ → Bool) (L : List ℕ) → length L ≡ count (λ x. not (P x)) L + count P L
 unfolding count
 complement P [] = refl
 complement P (x ∷ L) = by-test (P x) (λ (e : P x ≡ true). rw e (omega (arith, complement P L))) (λ (e : P x ≡ false). rw e (omega (arith, complement P L)))
+
+-- no more of the numbers below n pass a test than there are
+pub count-most : (P : ℕ → Bool) (n : ℕ) → count P (upTo n) ≤ n
+count-most P n = omega (arith, complement P (upTo n), length-upTo n)
 
 -- ---- for loops: one more node, one more entry
 
@@ -221,6 +233,10 @@ keep-append P (x ∷ K) L = by-test (P x) (λ (e : P x ≡ true). rw (e, keep-ap
 pub map-append : {A B : Type 0} (f : A → B) (K L : List A) → map f (K ++ L) ≡ map f K ++ map f L
 map-append f [] L = refl
 map-append f (x ∷ K) L = ap (λ t. f x ∷ t) (map-append f K L)
+
+pub map-upTo : {A : Type 0} (f : ℕ → A) (k : ℕ) → map f (upTo (suc k)) ≡ map f (upTo k) ++ (f k ∷ [])
+unfolding upTo
+map-upTo f k = map-append f (upTo k) (k ∷ [])
 
 -- a loop over the nodes in ascending order that appends an entry for each that passes
 pub gather-yes : {A : Type 0} (e : ℕ → A) (R : ℕ → Bool) (k : ℕ) → R k ≡ true → map e (keep R (upTo (suc k))) ≡ map e (keep R (upTo k)) ++ (e k ∷ [])

@@ -54,7 +54,7 @@ module _ (s : Settings) (table : List ℕ) where
 
   module _ (value : s .value ≤ 65000) where
     -- a fault-free node's slot is the default or an ordinary value
-    pub slot-ordinary : (i : ℕ) → faulty (s .faults) i ≡ false → slot s table i .word ≤ 65000
+    slot-ordinary : (i : ℕ) → faulty (s .faults) i ≡ false → slot s table i .word ≤ 65000
     unfolding decision
     slot-ordinary i f =
         by-test (eqb i (s .sender))

@@ -29,12 +29,12 @@ record Nth (P : ℕ → Bool) (n d x : ℕ) : Type 0 where
   place : count P (upTo x) ≡ d
 
 -- one number more at the end leaves the earlier places ..
-keep-first : (P : ℕ → Bool) (n d : ℕ) → d < count P (upTo n) → getD (keep P (upTo (suc n))) d 0 ≡ getD (keep P (upTo n)) d 0
+pub keep-first : (P : ℕ → Bool) (n d : ℕ) → d < count P (upTo n) → getD (keep P (upTo (suc n))) d 0 ≡ getD (keep P (upTo n)) d 0
 unfolding upTo
 keep-first P n d h = rw keep-append (List·getD-append (keep P (upTo n)) (keep P (n ∷ [])) 0 d (omega (arith, length-keep P (upTo n))))
 
 -- .. and stands behind them if it passes
-keep-last : (P : ℕ → Bool) (n d : ℕ) → P n ≡ true → d ≡ count P (upTo n) → getD (keep P (upTo (suc n))) d 0 ≡ n
+pub keep-last : (P : ℕ → Bool) (n d : ℕ) → P n ≡ true → d ≡ count P (upTo n) → getD (keep P (upTo (suc n))) d 0 ≡ n
 unfolding upTo keep
 keep-last P n d e h = rw (keep-append, e) (getD-at (keep P (upTo n)) n [] 0 d (length-keep P (upTo n) ∙ sym h))
 

@@ -65,7 +65,7 @@ count-past P a b h e =
     omega (arith, step, count-more P (suc a) b h)
 
 -- a larger free number has the larger digit
-pub digit-ascends : (sender : ℕ) (p : List ℕ) (a b : ℕ) → free (sender ∷ p) a ≡ true → a < b → digit sender p a < digit sender p b
+digit-ascends : (sender : ℕ) (p : List ℕ) (a b : ℕ) → free (sender ∷ p) a ≡ true → a < b → digit sender p a < digit sender p b
 unfolding digit
 digit-ascends sender p a b f h = count-past (free (sender ∷ p)) a b h f
 
@@ -79,7 +79,7 @@ digit-receivers n sender p (suc a) h =
 
 module _ (n sender : ℕ) (node : sender < n) where
   -- the digit of a receiver is below the number of receivers
-  pub digit-lt : (p : List ℕ) (a : ℕ) → isPath n sender p ≡ true → receiver n sender p a ≡ true → digit sender p a < n - 1 - length p
+  digit-lt : (p : List ℕ) (a : ℕ) → isPath n sender p ≡ true → receiver n sender p a ≡ true → digit sender p a < n - 1 - length p
   unfolding size
   digit-lt p a path r =
       omega (

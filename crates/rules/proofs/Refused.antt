@@ -167,7 +167,7 @@ pub settings-ascend : (s : Settings) → ascending 0 (numbers (settingsReasons s
 unfolding ascending settingsReasons
 settings-ascend s = refl
 
-pub exchange-ascend : (s : Settings) (table row : ℕ) → ascending 0 (numbers (exchangeReasons s table row)) ≡ true
+exchange-ascend : (s : Settings) (table row : ℕ) → ascending 0 (numbers (exchangeReasons s table row)) ≡ true
 unfolding ascending exchangeReasons settingsReasons
 exchange-ascend s table row = refl
 
@@ -175,19 +175,19 @@ pub layout-ascend : (n m : ℕ) → ascending 0 (numbers (layoutReasons n m)) �
 unfolding ascending layoutReasons
 layout-ascend n m = refl
 
-pub route-ascend : (n m sender : ℕ) (r : R.Route) → ascending 0 (numbers (routeReasons n m sender r)) ≡ true
+route-ascend : (n m sender : ℕ) (r : R.Route) → ascending 0 (numbers (routeReasons n m sender r)) ≡ true
 unfolding ascending routeReasons layoutReasons
 route-ascend n m sender r = refl
 
-pub cell-ascend : (n m sender c : ℕ) → ascending 0 (numbers (cellReasons n m sender c)) ≡ true
+cell-ascend : (n m sender c : ℕ) → ascending 0 (numbers (cellReasons n m sender c)) ≡ true
 unfolding ascending cellReasons layoutReasons
 cell-ascend n m sender c = refl
 
-pub part-ascend : (n m table k : ℕ) → ascending 0 (numbers (partReasons n m table k)) ≡ true
+part-ascend : (n m table k : ℕ) → ascending 0 (numbers (partReasons n m table k)) ≡ true
 unfolding ascending partReasons layoutReasons
 part-ascend n m table k = refl
 
-pub vote-ascend : (q list : ℕ) → ascending 0 (numbers (voteReasons q list)) ≡ true
+vote-ascend : (q list : ℕ) → ascending 0 (numbers (voteReasons q list)) ≡ true
 unfolding ascending voteReasons
 vote-ascend q list = refl
 

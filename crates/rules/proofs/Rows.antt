@@ -29,7 +29,7 @@ written-back row zero h = refl
 written-back row (suc k) h = rw (take-suc row k 0 h, written-back row k (omega arith))
 
 -- held again, a written route is the route, whatever stands behind it in the row
-pub back-written : (p rest : List ℕ) → back (written p ++ rest) (length p) ≡ p
+back-written : (p rest : List ℕ) → back (written p ++ rest) (length p) ≡ p
 unfolding back written
 back-written [] rest = refl
 back-written (a ∷ p) rest =

@@ -15,7 +15,7 @@ use Rattle.rules.specs.Vote.{vote}
 use Rattle.rules.specs.Decision.{via, threshold, byz, entries, decision}
 use Rattle.rules.specs.Exchange.{classOf, slot, slots, tieCount}
 use Rattle.rules.specs.declared.Settings.{Settings}
-use Rattle.rules.proofs.Counting.{by-test, bit-le-one, complement, length-upTo}
+use Rattle.rules.proofs.Counting.{by-test, bit-le-one, count-most, length-upTo}
 use Rattle.rules.proofs.Receivers.{size, length-receivers}
 use Rattle.rules.proofs.Accepted.{SettingsAccepted, layout-of}
 use Rattle.rules.proofs.Clauses.{byz-told, byz-ties}
@@ -67,7 +67,7 @@ total-most g b (x ∷ L) h = rw suc-mul (omega (arith, h x, total-most g b L h))
 -- no more receive than there are nodes
 receivers-most : (n sender : ℕ) (p : List ℕ) → length (receivers n sender p) ≤ n
 unfolding size
-receivers-most n sender p = omega (arith, length-receivers n sender p, complement (receiver n sender p) (upTo n), length-upTo n)
+receivers-most n sender p = omega (arith, length-receivers n sender p, count-most (receiver n sender p) n)
 
 module _ (s : Settings) (table : List ℕ) where
   -- the ties behind a decision, by the rounds that are left

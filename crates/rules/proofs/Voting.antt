@@ -254,10 +254,7 @@ vote-keeps P q xs z h = settle-keeps P (keep (reaches q xs) xs) z (all-kept P (r
 
 -- no count passes the length, so a threshold above the length gives the default and no tie
 pub vote-above : (q : ℕ) (xs : List ℕ) → length xs < q → vote q xs ≡ record { word = 0; tie = false }
-vote-above q xs h = vote-none q xs (λ v. omega (arith, count-length (eqb v) xs))
-  where
-    count-length : (P : ℕ → Bool) (L : List ℕ) → count P L ≤ length L
-    count-length P L = omega (arith, complement P L)
+vote-above q xs h = vote-none q xs (λ v. omega (arith, complement (eqb v) xs))
 
 -- ---- the order of the entries plays no part
 

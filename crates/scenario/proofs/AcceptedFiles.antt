@@ -51,7 +51,7 @@ nothing-after d (line ∷ lines) two end = by (outcome d line)
     by (closes e c to) = absurd (omega (arith, c .place))
 
 -- from the `01` line on
-pub run : (d : Desk) (lines : List (List ℕ)) → stageOf (d .reader) ≡ 1 → Complete (judgedAll d lines) → Run d lines (judgedAll d lines)
+run : (d : Desk) (lines : List (List ℕ)) → stageOf (d .reader) ≡ 1 → Complete (judgedAll d lines) → Run d lines (judgedAll d lines)
 unfolding told closed after
 run d [] one end = absurd (omega (arith, end .stage))
 run d (line ∷ lines) one end = by (outcome d line) (λ one′. run (judged d line) lines one′ end)

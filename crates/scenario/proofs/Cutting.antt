@@ -50,14 +50,14 @@ cut-clean begun (b ∷ x) h =
 -- ---- no other way to cut
 
 -- what follows a line's LF is cut by itself
-pub line-cut : (begun line x : List ℕ) → all notEnd line ≡ true → linesFrom begun (line ++ (lineEnd ∷ x)) ≡ (begun ++ line) ∷ linesOf x
+line-cut : (begun line x : List ℕ) → all notEnd line ≡ true → linesFrom begun (line ++ (lineEnd ∷ x)) ≡ (begun ++ line) ∷ linesOf x
 unfolding linesFrom all
 line-cut begun [] x h = rw append-nil
 line-cut begun (b ∷ line) x h =
     rw (not-true (eqb b lineEnd) (and-left (notEnd b) (all notEnd line) h))
     (line-cut (begun ++ (b ∷ [])) line x (and-right (notEnd b) (all notEnd line) h) ∙ rw append-snoc)
 
-pub rest-cut : (begun line x : List ℕ) → all notEnd line ≡ true → restFrom begun (line ++ (lineEnd ∷ x)) ≡ restOf x
+rest-cut : (begun line x : List ℕ) → all notEnd line ≡ true → restFrom begun (line ++ (lineEnd ∷ x)) ≡ restOf x
 unfolding restFrom all
 rest-cut begun [] x h = refl
 rest-cut begun (b ∷ line) x h =

@@ -114,9 +114,9 @@ lengths-kept d line = by (outcome d line)
     by (closes e c to) = rw to (refl, refl)
 
 -- a desk with enough, whose reader was not stopped for want of it
-pub record Fair (d : Desk) : Type 0 where
-  pub ample : Ample d
-  pub own : Own (d .reader .refusal)
+record Fair (d : Desk) : Type 0 where
+  ample : Ample d
+  own : Own (d .reader .refusal)
 
 ample-kept : (d : Desk) (line : List ℕ) → Ample d → Ample (judged d line)
 ample-kept d line a =

@@ -15,7 +15,7 @@ use Rattle.rules.specs.Cells.{cells}
 use Rattle.rules.specs.Routes.{held}
 use Rattle.rules.specs.Refusals.{settingsRefusal}
 use Rattle.rules.specs.declared.Settings.{Settings}
-use Rattle.rules.proofs.Counting.{by-test, one-fewer, complement, length-upTo, length-keep, keep-none}
+use Rattle.rules.proofs.Counting.{by-test, one-fewer, count-most, length-keep, keep-none}
 use Rattle.rules.proofs.WordRows.{put-length}
 use Rattle.rules.proofs.Numbering.{cell-lt}
 use Rattle.rules.proofs.Accepted.{settings-accepted}
@@ -43,7 +43,7 @@ markCount s marks = count (marked marks) (upTo (cellCount s))
 
 marks-most : (s : Settings) (marks : List ℕ) → markCount s marks ≤ cellCount s
 unfolding markCount
-marks-most s marks = omega (arith, complement (marked marks) (upTo (cellCount s)), length-upTo (cellCount s))
+marks-most s marks = count-most (marked marks) (cellCount s)
 
 none-marked : (s : Settings) (k : ℕ) → markCount s (replicate k 0) ≡ 0
 unfolding markCount
@@ -177,7 +177,7 @@ module _ (k : ℕ) (d : Desk) (line : List ℕ) where
       by (tells e t to) = telling o (sym stage ∙ t .place) t to
       by (closes e c to) = closing o (sym stage ∙ c .place) to
 
-  pub step : Sound k d → Sound (k + 1) (judged d line)
+  step : Sound k d → Sound (k + 1) (judged d line)
   step (unopened going stage given lines none) = by (outcome d line)
     where
       by : Outcome d line → Sound (k + 1) (judged d line)
@@ -197,7 +197,7 @@ module _ (k : ℕ) (d : Desk) (line : List ℕ) where
       by (closes e c to) = absurd (true≢false (sym stop ∙ e))
 
 -- line after line
-pub steps : (k : ℕ) (d : Desk) (lines : List (List ℕ)) → Sound k d → Sound (k + length lines) (judgedAll d lines)
+steps : (k : ℕ) (d : Desk) (lines : List (List ℕ)) → Sound k d → Sound (k + length lines) (judgedAll d lines)
 steps k d [] h = rw add-zero h
 steps k d (line ∷ lines) h = subst (λ n. Sound n (judgedAll (judged d line) lines)) (omega arith) (steps (k + 1) (judged d line) lines (step k d line h))
 

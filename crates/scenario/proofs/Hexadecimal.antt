@@ -15,7 +15,7 @@ use Rattle.scenario.specs.Hex.{isDigit, digitValue, digitOf, frameOf, di
 -- ---- one digit
 
 -- what a digit that was written stands for
-pub value-of-digit : (v : ℕ) → v < 16 → digitValue (digitOf v) ≡ v
+value-of-digit : (v : ℕ) → v < 16 → digitValue (digitOf v) ≡ v
 unfolding digitValue digitOf
 value-of-digit v h =
     by-test (ltb v 10)

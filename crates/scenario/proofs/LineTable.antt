@@ -4,7 +4,7 @@ use mathlib.Core.Path.{_≡_, refl, sym, _∙_}
 use mathlib.Core.Logic.{_⊎_, inl, inr, ⊎-elim, _≢_, _↔_, Iff·trans}
 use mathlib.Core.Bool.{Bool, true, false, not, _&&_, _||_, cond, and-false, true≢false, false≢true}
 use mathlib.Core.List.{List, [], _∷_, _++_, map}
-use Prim.Native.Nat.{ℕ, zero, suc, _+_, _*_, _%_, _≤_, _<_}
+use Prim.Native.Nat.{ℕ, suc, _+_, _*_, _%_, _≤_, _<_}
 use native.Mathlib.Omega.{arith}
 use lib.ListN.{length, getD}
 use lib.Dec.{eqb, ltb, leb}
@@ -14,7 +14,7 @@ use Rattle.rules.specs.Routes.{isRoute, held}
 use Rattle.rules.specs.Cells.{cells}
 use Rattle.rules.specs.Refusals.{Reason, because, first, noRoute, settingsRefusal}
 use Rattle.rules.specs.declared.Settings.{Settings}
-use Rattle.rules.proofs.Counting.{by-test, and-left, and-right, and-both}
+use Rattle.rules.proofs.Counting.{by-test, and-left, and-right, and-both, all-at}
 use Rattle.rules.proofs.Refused.{NoneApplies, end as none-left, _⨾_ as _not-this_}
 use Rattle.rules.proofs.RefusalTable.{Line, given, Says, end, _⨾_, settingsLines, settings-say, either, below, up-to, equal, differs, fails}
 use Rattle.scenario.specs.Hex.{isDigit, frameOf}
@@ -146,13 +146,10 @@ other-byte (x ∷ line) e =
     (λ (y : isDigit x ≡ false). record { at = 0; within = omega arith; other = refuted (digit x) y })
 
 not-all : (line : List ℕ) (i : ℕ) → i < length line → ¬ DigitByte (getD line i 0) → all isDigit line ≡ false
-unfolding all
-not-all [] i h out = absurd (omega arith)
-not-all (x ∷ line) zero h out =
-    by-test (isDigit x)
-    (λ (y : isDigit x ≡ true). absurd (out (digit x .0 y)))
-    (λ (y : isDigit x ≡ false). rw y)
-not-all (x ∷ line) (suc i) h out = rw (not-all line i (omega arith) out, and-false)
+not-all line i h out =
+    by-test (all isDigit line)
+    (λ (y : all isDigit line ≡ true). absurd (out (digit (getD line i 0) .0 (all-at isDigit line i h y))))
+    (λ (y : all isDigit line ≡ false). y)
 
 no-frame : (line : List ℕ) → (noFrame line ≡ true) ↔ NoFrame line
 unfolding noFrame

@@ -74,9 +74,9 @@ judged-cleared d line h = rw h
 -- ---- what is held of a line are its first 19 bytes
 
 -- room for 19 bytes, and no more than that held
-pub record Room (r : Reader) : Type 0 where
-  pub long : length (r .held) ≡ 19
-  pub most : r .count ≤ 19
+record Room (r : Reader) : Type 0 where
+  long : length (r .held) ≡ 19
+  most : r .count ≤ 19
 
 keeping-room : (r : Reader) (b : ℕ) → Room r → Room (keeping r b)
 unfolding keeping
@@ -98,7 +98,7 @@ keeping-holds r b line k =
     let full : 19 ≤ length (lineHeld r) = omega (arith, length-take (r .count) (r .held), k .long, ltb-false (r .count) 19 e) in
     rw (e, take-append-le 19 (lineHeld r) line full, take-append-le 19 (lineHeld r) (b ∷ line) full))
 
-pub holds-first : (r : Reader) (line : List ℕ) → Room r → lineHeld (keepingAll r line) ≡ take 19 (lineHeld r ++ line)
+holds-first : (r : Reader) (line : List ℕ) → Room r → lineHeld (keepingAll r line) ≡ take 19 (lineHeld r ++ line)
 holds-first r [] k =
     rw (append-nil, take-all 19 (lineHeld r) (omega (arith, length-take (r .count) (r .held), k .long)))
 holds-first r (b ∷ line) k = holds-first (keeping r b) line (keeping-room r b k) ∙ keeping-holds r b line k

@@ -64,7 +64,7 @@ cell-below d frame t =
     cell-lt (s .n) (s .sender) (ok .sender-below) (s .m) (held (routeIn frame)) (t .route)
 
 -- the settings stay
-pub run-settings : {d e : Desk} {lines : List (List ℕ)} → Run d lines e → e .reader .settings ≡ d .reader .settings
+run-settings : {d e : Desk} {lines : List (List ℕ)} → Run d lines e → e .reader .settings ≡ d .reader .settings
 unfolding told closed after
 run-settings (last c) = refl
 run-settings (next t r) = run-settings r

@@ -12,7 +12,7 @@ use borrow.Author.Tests.{eq-eqb, ne-eqb, le-leb, lt-leb, not-true, not-false}
 use Rattle.rules.specs.Lists.{bit, count, upTo}
 use Rattle.rules.specs.Words.{wordAt, plain, wordsOf}
 use Rattle.votes.specs.Needs.{Candidate}
-use Rattle.rules.proofs.Counting.{bit-le-one, map-append, count-append}
+use Rattle.rules.proofs.Counting.{complement, map-upTo, count-append}
 use Rattle.rules.proofs.Ordinary.{plain-ordinary}
 use Rattle.rules.proofs.WordRows.{plain-reserved, plain-same, words-count}
 
@@ -24,14 +24,13 @@ abbrev pub firsts : List ℕ → ℕ → List ℕ
 firsts bytes i = map (entry bytes) (upTo i)
 
 -- all of them are the list's words
-pub all-firsts : (bytes : List ℕ) (i : ℕ) → i ≡ length bytes / 2 → firsts bytes i ≡ wordsOf bytes
+all-firsts : (bytes : List ℕ) (i : ℕ) → i ≡ length bytes / 2 → firsts bytes i ≡ wordsOf bytes
 unfolding wordsOf
 all-firsts bytes i e = rw e
 
 -- one entry more
-pub firsts-next : (bytes : List ℕ) (i : ℕ) → firsts bytes (i + 1) ≡ firsts bytes i ++ (entry bytes i ∷ [])
-unfolding upTo
-firsts-next bytes i = rw (add-one, map-append)
+firsts-next : (bytes : List ℕ) (i : ℕ) → firsts bytes (i + 1) ≡ firsts bytes i ++ (entry bytes i ∷ [])
+firsts-next bytes i = rw add-one (map-upTo (entry bytes) i)
 
 pub count-next : (P : ℕ → Bool) (bytes : List ℕ) (i : ℕ) → count P (firsts bytes (i + 1)) ≡ count P (firsts bytes i) + bit (P (entry bytes i))
 unfolding count
@@ -40,18 +39,6 @@ count-next P bytes i = rw (firsts-next, count-append) (omega arith)
 pub count-none : (P : ℕ → Bool) (bytes : List ℕ) → count P (firsts bytes 0) ≡ 0
 unfolding count upTo
 count-none P bytes = refl
-
--- the entries that are left add no more than they are
-count-rest : (P : ℕ → Bool) (bytes : List ℕ) (i d : ℕ) → count P (firsts bytes (i + d)) ≤ count P (firsts bytes i) + d
-count-rest P bytes i zero = let e : i + 0 ≡ i = omega arith in rw e (omega arith)
-count-rest P bytes i (suc d) =
-    let e : i + suc d ≡ i + d + 1 = omega arith in
-    rw (e, count-next) (omega (arith, bit-le-one (P (entry bytes (i + d))), count-rest P bytes i d))
-
-pub entries-rest : (P : ℕ → Bool) (bytes : List ℕ) (i : ℕ) → i ≤ length bytes / 2 → count P (wordsOf bytes) ≤ count P (firsts bytes i) + (length bytes / 2 - i)
-entries-rest P bytes i h =
-    let left = length bytes / 2 - i in
-    rw (all-firsts bytes (i + left) (omega arith)) at (count-rest P bytes i left)
 
 -- the entry in a place after the first i is an entry of the bytes after theirs
 entry-after : (bytes : List ℕ) (i d : ℕ) → entry (drop (2 * i) bytes) d ≡ entry bytes (i + d)
@@ -74,6 +61,12 @@ count-from P bytes i h =
     let left = length bytes / 2 - i in
     rw (← all-firsts bytes (i + left) (omega arith), ← all-firsts (drop (2 * i) bytes) left (omega (arith, length-drop (2 * i) bytes)))
     (count-after P bytes i left)
+
+-- the entries that are left add no more than they are
+pub entries-rest : (P : ℕ → Bool) (bytes : List ℕ) (i : ℕ) → i ≤ length bytes / 2 → count P (wordsOf bytes) ≤ count P (firsts bytes i) + (length bytes / 2 - i)
+entries-rest P bytes i h =
+    let rest = drop (2 * i) bytes in
+    omega (arith, count-from P bytes i h, complement P (wordsOf rest), words-count rest, length-drop (2 * i) bytes)
 
 -- no entry is reserved
 pub candidate-plain : (bytes : List ℕ) (place word spare : ℕ) → Candidate bytes place word spare → word ≤ 65000

@@ -8,7 +8,7 @@ use borrow.Author.Needs.{needs}
 use lib.ListN.{length, take, getD}
 use Rattle.scenario.specs.Hex.{isDigit, frameOf}
 use Rattle.frames.specs.Rows.{frameRow}
-use Rattle.frames.proofs.Every.{all-at}
+use Rattle.frames.proofs.Every.{first-at}
 use Rattle.frames.proofs.FrameRows.{Framed, framed, frame-more}
 use Rattle.frames.proofs.digits.frame_of.Statement.{statement}
 use Rattle.frames.proofs.digits.frame_of.Tie as tie
@@ -49,7 +49,7 @@ byte-of-requires : tie.Need-byte-of-requires Inv-loop μ-loop
 byte-of-requires c κs =
     let at = c .before in
     let digit : (j : ℕ) → j < at .before .args .count → isDigit (getD (at .before .args .t1) j 0) ≡ true =
-    λ j h. all-at isDigit (at .before .args .t1) j (at .before .args .count) (at .loop .inv .line .digits) h (omega arith) in
+    λ j h. first-at isDigit (at .before .args .t1) j (at .before .args .count) (at .loop .inv .line .digits) h (omega arith) in
     (digit _ (omega arith), digit _ (omega arith))
 
 array-write-frame : tie.Need-array-write-frame Inv-loop μ-loop
