@@ -7,10 +7,10 @@ use Prim.Native.Nat.{ℕ, suc, _+_, _*_, _-_, _≤_}
 use native.Mathlib.Omega.{arith}
 use native.Mathlib.Numerals.{add-one}
 use lib.Dec.{eqb}
-use borrow.Author.Tests.{eqb-true, eq-eqb, ne-eqb}
+use borrow.Author.Tests.{eqb-true}
 use mir.Syntax.{w8, w32}
 use mir.Val.{Fits}
-use Rattle.rules.specs.Routes.{held, written}
+use Rattle.rules.specs.Routes.{held}
 use Rattle.rules.specs.Cells.{cellsBefore, cells, cell, roundOf, unrank, routeAt}
 use Rattle.rules.specs.Refusals.{routeRefusal, cellRefusal, partRefusal}
 use Rattle.rules.specs.Answers.{cellFound, rowOfRoute, routeFound, partFound}
@@ -24,14 +24,14 @@ use Rattle.rules.proofs.Inverse.{round-most, round-of}
 use Rattle.rules.proofs.Rows.{length-back}
 use Rattle.rules.proofs.Accepted.{RouteAccepted, CellAccepted, PartAccepted, route-accepted, cell-accepted, part-accepted}
 use Rattle.rules.proofs.Growth.{messages-most}
+use Rattle.rules.proofs.Returned
 use Rattle.routes.specs.Needs.{Depth, Numbered}
 
 -- ---- route to cell
 
 module _ (n m sender : ℕ) (r : R.Route) (k : ℕ) (judged : k ≡ routeRefusal n m sender r) where
   pub cell-not-found : (k ≡ 0 → ⊥) → _≡_ {A = CellFound} (record { refusal = k; cell = 0 }) (cellFound n m sender r)
-  unfolding cellFound
-  cell-not-found h = rw (← judged, ne-eqb k 0 h)
+  cell-not-found h = rw judged (sym (Returned.cell-not-found n m sender r (rw judged at h)))
 
   module _ (z : k ≡ 0) where
     route-ok : RouteAccepted n m sender r
@@ -56,15 +56,13 @@ module _ (n m sender : ℕ) (r : R.Route) (k : ℕ) (judged : k ≡ routeRefusal
           record { fits = omega (arith, cell-lt n sender (route-ok .sender-below) m (held r) (route-ok .route), messages-most n m (route-ok .layout)) }
 
       pub cell-is-found : _≡_ {A = CellFound} (record { refusal = 0; cell = c }) (cellFound n m sender r)
-      unfolding cellFound
-      cell-is-found = rw (← judged, eq-eqb k 0 z, ← its)
+      cell-is-found = rw its (sym (Returned.cell-found n m sender r (sym judged ∙ z)))
 
 -- ---- cell to route
 
 module _ (n m sender c k : ℕ) (judged : k ≡ cellRefusal n m sender c) where
   pub route-not-found : (k ≡ 0 → ⊥) → _≡_ {A = RouteFound} (record { refusal = k; route = record { nodes = 0 ∷ 0 ∷ 0 ∷ 0 ∷ []; len = 0 } }) (routeFound n m sender c)
-  unfolding routeFound rowOfRoute written
-  route-not-found h = rw (← judged, ne-eqb k 0 h)
+  route-not-found h = rw judged (sym (Returned.route-not-found n m sender c (rw judged at h)))
 
   module _ (z : k ≡ 0) where
     cell-ok : CellAccepted n m sender c
@@ -100,15 +98,14 @@ module _ (n m sender c k : ℕ) (judged : k ≡ cellRefusal n m sender c) where
         place-in-round = rw (start, its) (round-of n m c (cell-ok .cell-below) .from)
 
         pub route-is-found : (p : R.Route) → p ≡ rowOfRoute (unrank n sender (round + 1) (c - b)) → _≡_ {A = RouteFound} (record { refusal = 0; route = p }) (routeFound n m sender c)
-        unfolding routeFound routeAt
-        route-is-found p e = rw (← judged, eq-eqb k 0 z, e, start, its, add-one)
+        unfolding routeAt
+        route-is-found p e = rw (e, start, its, add-one) (sym (Returned.route-found n m sender c (sym judged ∙ z)))
 
 -- ---- one round's part of a table
 
 module _ (n m bytes round k : ℕ) (judged : k ≡ partRefusal n m bytes round) where
   pub part-not-found : (k ≡ 0 → ⊥) → _≡_ {A = RoundPart} (record { refusal = k; start = 0; end = 0 }) (partFound n m bytes round)
-  unfolding partFound
-  part-not-found h = rw (← judged, ne-eqb k 0 h)
+  part-not-found h = rw judged (sym (Returned.part-not-found n m round bytes (rw judged at h)))
 
   module _ (z : k ≡ 0) where
     part-ok : PartAccepted n m bytes round
@@ -127,8 +124,7 @@ module _ (n m bytes round k : ℕ) (judged : k ≡ partRefusal n m bytes round) 
 
     pub part-is-found : (a b : ℕ) → a ≡ cellsBefore n round → b ≡ cellsBefore n (round + 1) →
         _≡_ {A = RoundPart} (record { refusal = 0; start = 2 * a; end = 2 * b }) (partFound n m bytes round)
-    unfolding partFound
-    part-is-found a b ea eb = rw (← judged, eq-eqb k 0 z, ea, eb, add-one)
+    part-is-found a b ea eb = rw (ea, eb, add-one) (sym (Returned.part-found n m round bytes (sym judged ∙ z)))
 
 -- the part starts before it ends, and ends within the table, also where it is empty
 module _ (n m bytes round : ℕ) (p : RoundPart) (found : p ≡ partFound n m bytes round) where

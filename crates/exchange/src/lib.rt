@@ -11,7 +11,7 @@ mod deciding; // a receiver's entries and their vote
 mod row; // the decision row
 
 use judging::narrowed;
-pub use judging::refusal;
+use judging::refusal;
 use row::play;
 use rules::Settings;
 use rules::Summary;

@@ -31,7 +31,7 @@ use Rattle.reading.specs.Steps.{Tellable, Acceptable}
 use Rattle.scenario.specs.declared.Reader.{Reader}
 use Rattle.scenario.proofs.Outcomes.{passed}
 use Rattle.frames.proofs.FrameRows.{row-byte, settings-row, route-row, told-row}
-use Rattle.reasons.proofs.KindCascade.{placed, not-placed, opened-before, kind-row}
+use Rattle.reasons.proofs.KindCascade.{cell-read, no-cell-read, opened-before, kind-row}
 
 -- ---- an `02` line
 
@@ -70,9 +70,9 @@ module _ (r : Reader) (frame table marks : List ℕ) (ok : Tellable (desk r tabl
     cell-found : found .cell ≡ cellIn (r .settings) frame
     cell-found =
         by-test (eqb (found .refusal) 0)
-        (λ (e : eqb (found .refusal) 0 ≡ true). placed (r .settings) frame route read found is (eqb-true (found .refusal) 0 e) .cell)
+        (λ (e : eqb (found .refusal) 0 ≡ true). cell-read (r .settings) frame route read found is (eqb-true (found .refusal) 0 e) .cell)
         (λ (e : eqb (found .refusal) 0 ≡ false).
-        absurd (true≢false (sym (not-placed (r .settings) frame route read found is (ok .settings) (eqb-false (found .refusal) 0 e)) ∙ room r frame table marks ok .route)))
+        absurd (true≢false (sym (no-cell-read (r .settings) frame route read found is (ok .settings) (eqb-false (found .refusal) 0 e)) ∙ room r frame table marks ok .route)))
 
     -- the table has room for its word
     pub word-room : 2 * found .cell + 1 < length table

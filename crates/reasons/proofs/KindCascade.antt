@@ -65,7 +65,7 @@ module _ (frame table marks : List ℕ) (s : Settings) (read : s ≡ settingsIn 
 -- ---- an `02` line's own
 
 -- over accepted settings the way from a route to its cell refuses nothing but what is no route
-pub record Placed (s : Settings) (frame : List ℕ) (found : CellFound) : Type 0 where
+pub record CellRead (s : Settings) (frame : List ℕ) (found : CellFound) : Type 0 where
   pub route : routeless s frame ≡ false
   pub cell : found .cell ≡ cellIn s frame
 
@@ -79,17 +79,17 @@ module _ (s : Settings) (frame : List ℕ) (r : R.Route) (read : r ≡ routeIn f
       (λ (e : eqb k 0 ≡ false). rw (is, e))
 
   -- where it gives a cell, that is the cell of the frame
-  pub placed : found .refusal ≡ 0 → Placed s frame found
+  pub cell-read : found .refusal ≡ 0 → CellRead s frame found
   unfolding cellFound routeless cellIn noRoute
-  placed e =
+  cell-read e =
       let zero = sym found-refusal ∙ e in
       let route = route-accepted (s .n) (s .m) (s .sender) r .0 zero .route in
       record { route = rw (← read, route); cell = rw (← read, is, zero) }
 
   -- where it refuses, the frame has no route
-  pub not-placed : settingsRefusal s ≡ 0 → (found .refusal ≡ 0 → ⊥) → routeless s frame ≡ true
+  pub no-cell-read : settingsRefusal s ≡ 0 → (found .refusal ≡ 0 → ⊥) → routeless s frame ≡ true
   unfolding routeless noRoute
-  not-placed ok ne =
+  no-cell-read ok ne =
       by-test (isRoute (s .n) (s .m) (s .sender) (held r))
       (λ (e : isRoute (s .n) (s .m) (s .sender) (held r) ≡ true).
       let facts = settings-accepted s .0 ok in
@@ -103,12 +103,12 @@ module _ (r : Reader) (frame table marks : List ℕ) where
   no-route e = rw e
 
   -- 24
-  pub given-twice : (found : CellFound) → Placed (r .settings) frame found → (b : Bool) → b ≡ marked marks (found .cell) → b ≡ true → 24 ≡ tellRefusal (desk r table marks) frame
+  pub given-twice : (found : CellFound) → CellRead (r .settings) frame found → (b : Bool) → b ≡ marked marks (found .cell) → b ≡ true → 24 ≡ tellRefusal (desk r table marks) frame
   unfolding first tellReasons givenBefore
   given-twice found at b is set = rw (at .route, ← at .cell, ← is, set)
 
   -- where neither applies, what is lent decides
-  pub told-once : (found : CellFound) → Placed (r .settings) frame found → (b : Bool) → b ≡ marked marks (found .cell) → b ≡ false
+  pub told-once : (found : CellFound) → CellRead (r .settings) frame found → (b : Bool) → b ≡ marked marks (found .cell) → b ≡ false
       → (k : ℕ) → k ≡ lentRefusal (r .settings) (length table) (length marks) → k ≡ tellRefusal (desk r table marks) frame
   unfolding first tellReasons givenBefore lentReasons
   told-once found at b is unset k e = rw (at .route, ← at .cell, ← is, unset) e

@@ -21,6 +21,11 @@ same [] (y ∷ ys) = false
 same (x ∷ xs) [] = false
 same (x ∷ xs) (y ∷ ys) = eqb x y && same xs ys
 
+-- every case of a list passes a test
+unfoldable pub every : {A : Type 0} → (A → Bool) → List A → Bool
+every P [] = true
+every P (x ∷ xs) = P x && every P xs
+
 pub data Case : Type 0 where
   -- N, m; M
   messages : ℕ → ℕ → ℕ → Case
@@ -39,10 +44,6 @@ holds (numbered n sender r c) = eqb (cell n sender r) c
 holds (voting q xs w t) = eqb (vote q xs .word) w && Bool·beq (vote q xs .tie) t
 holds (deciding s table i es w) = same (entries s table (s .m - 1) (i ∷ [])) es && eqb (decision s table i .word) w
 holds (playing s table row) = same (rowOf s table) row
-
-unfoldable pub every : List Case → Bool
-every [] = true
-every (c ∷ cs) = holds c && every cs
 
 -- the sample: N=5, m=1, u=2, sender 0 with value 7, nodes 3 and 4 faulty
 abbrev pub sample : Settings
@@ -84,6 +85,6 @@ cases =
     ∷ playing loneSender (toldTable 5 6 8) (255 ∷ 255 ∷ 0 ∷ 0 ∷ 0 ∷ 0 ∷ 0 ∷ 0 ∷ [])  -- P14
     ∷ []
 
-pub worked : every cases ≡ true
+pub worked : every holds cases ≡ true
 unfolding every cases holds same count keep all upTo total wordAt reserved plain bytesOf faulty free receiver receivers routesOf cellsBefore cells digit rank cell delivered reaches settle vote via judge decide nodesAt threshold byz entries decision slot slots rowOf
 worked = refl

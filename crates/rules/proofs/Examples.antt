@@ -17,7 +17,7 @@ use Rattle.rules.specs.Decision.{via, wordOf, judge, decide, nodesAt, th
 use Rattle.rules.specs.Refusals.{first, wrongNodes, wrongRounds, lowBound, tooFew, noSender, reservedValue, strayFault, wrongTable, wrongRow, settingsReasons, exchangeReasons, exchangeRefusal}
 use Rattle.rules.specs.Exchange.{faultCount, classOf, slot, slots}
 use Rattle.rules.specs.declared.Settings.{Settings}
-use Rattle.rules.proofs.Cases.{same}
+use Rattle.rules.proofs.Cases.{same, every}
 
 -- a call, with a word for each cell, and what comes of it: refusal, f, class, and the words in the slots of its nodes
 pub record Example : Type 0 where
@@ -34,10 +34,6 @@ comes x =
     && (eqb (faultCount (x .given)) (x .faults)
     && (eqb (classOf (faultCount (x .given)) (x .given .m) (x .given .u)) (x .class)
     && same (map wordOf (slots (x .given) (bytesOf (x .told)))) (x .words)))
-
-unfoldable pub every : List Example → Bool
-every [] = true
-every (x ∷ xs) = comes x && every xs
 
 -- settings, told; refusal, f, class, words
 abbrev call : Settings → List ℕ → ℕ → ℕ → ℕ → List ℕ → Example
@@ -67,6 +63,6 @@ examples =
     ∷ call (settings 4 1 2 0 7 0b1001) twoFaced 4 2 2 (none ∷ 5 ∷ 6 ∷ none ∷ [])
     ∷ []
 
-pub computed : every examples ≡ true
+pub computed : every comes examples ≡ true
 unfolding every examples comes same ones onesIn count keep all upTo wordAt reserved plain bytesOf faulty free receiver receivers routesOf cellsBefore cells digit rank cell delivered reaches settle vote via judge decide nodesAt threshold byz decision first wrongNodes wrongRounds lowBound tooFew noSender reservedValue strayFault wrongTable wrongRow settingsReasons exchangeReasons classOf slot slots
 computed = refl

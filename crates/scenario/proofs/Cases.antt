@@ -1,7 +1,7 @@
 -- Worked files: whole inputs and their whole outputs, among them the paper's sample with what the program lends. Table and marks are
 -- filled with other bytes before, which an accepted `01` line clears.
 use mathlib.Core.Path.{_≡_, refl}
-use mathlib.Core.Bool.{Bool, true, _&&_}
+use mathlib.Core.Bool.{Bool, true}
 use mathlib.Core.List.{List, [], _∷_}
 use Prim.Native.Nat.{ℕ}
 use Prim.Native.Char.{code}
@@ -12,7 +12,7 @@ use Rattle.rules.specs.Lists.{count, keep, all, upTo, total}
 use Rattle.rules.specs.Words.{wordAt, reserved, plain, bytesOf, putWord, faulty}
 use Rattle.rules.specs.Routes.{back, free, receiver, receivers, isPath, isRoute}
 use Rattle.rules.specs.Cells.{routesOf, cellsBefore, cells, digit, rank, cell}
-use Rattle.rules.proofs.Cases.{same}
+use Rattle.rules.proofs.Cases.{same, every}
 use Rattle.rules.specs.Delivered.{delivered}
 use Rattle.rules.specs.Vote.{reaches, settle, vote}
 use Rattle.rules.specs.Decision.{via, judge, decide, nodesAt, threshold, byz, decision}
@@ -91,11 +91,7 @@ cases =
 unfoldable pub holds : Case → Bool
 holds c = same (answerTo (replicate (c .table) 0xff) (replicate (c .marks) 0xff) (bytesIn (c .input))) (bytesIn (c .output))
 
-unfoldable pub every : List Case → Bool
-every [] = true
-every (c ∷ cs) = holds c && every cs
-
-pub worked : every cases ≡ true
+pub worked : every holds cases ≡ true
 unfolding cases holds every same bytesIn ones count keep all upTo total wordAt reserved plain bytesOf putWord faulty back free receiver receivers isPath isRoute routesOf cellsBefore cells digit rank cell delivered reaches settle vote via judge decide nodesAt threshold byz decision classOf slot slots tieCount played first wrongNodes wrongRounds lowBound tooFew noSender reservedValue strayFault noRoute settingsReasons isDigit digitValue digitOf frameOf digitsOf linesFrom restFrom settingsIn routeIn wordTold countIn marked mark stageOf noFrame inPlace outOfPlace sizeOf wrongSize cellIn routeless givenBefore wrongCount shortTable shortMarks lentReasons openReasons tellReasons closeReasons kindReasons lineReasons oneMore after opened told closed refusedWith accepted settled judged fresh fileJudged cutShort endReasons refusedLine tableGiven roleOf nodeFrame summaryFrame refusalFrame playedFrames answerFrames lineOf textOf answerOf answerTo
 worked = refl
 
