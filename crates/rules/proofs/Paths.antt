@@ -1,5 +1,5 @@
 -- What a route is, in plain facts: 1 to m+1 numbers, all different, all below N, none the sender.
-use mathlib.Core.Path.{_≡_, refl, sym}
+use mathlib.Core.Path.{_≡_, refl}
 use mathlib.Core.Logic.{_≢_, _↔_}
 use mathlib.Core.Bool.{true}
 use mathlib.Core.List.{List, [], _∷_}

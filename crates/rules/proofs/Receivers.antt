@@ -24,7 +24,7 @@ pub free-cons : (a : ℕ) (p : List ℕ) (x : ℕ) → x ≢ a → free p x ≡ 
 unfolding free
 free-cons a p x ne h = rw (ne-eqb x a ne, h)
 
-free-tail : (a : ℕ) (p : List ℕ) (x : ℕ) → free (a ∷ p) x ≡ true → free p x ≡ true
+pub free-tail : (a : ℕ) (p : List ℕ) (x : ℕ) → free (a ∷ p) x ≡ true → free p x ≡ true
 unfolding free
 free-tail a p x h = search bools
 

@@ -107,7 +107,7 @@ pub first-zero : (j : ℕ) (l : List Reason) → ascending j (numbers l) ≡ tru
 first-zero j l up = first-none l (ascending-numbered j l up)
 
 -- the answer is not above a bound of all numbers
-first-most : (b : ℕ) (l : List Reason) → all (λ k. leb k b) (numbers l) ≡ true → first l ≤ b
+pub first-most : (b : ℕ) (l : List Reason) → all (λ k. leb k b) (numbers l) ≡ true → first l ≤ b
 unfolding first all
 first-most b [] h = omega arith
 first-most b (r ∷ rs) h =
