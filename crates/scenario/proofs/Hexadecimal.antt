@@ -15,9 +15,9 @@ use Rattle.scenario.specs.Hex.{isDigit, digitValue, digitOf, frameOf, di
 -- ---- one digit
 
 -- what a digit that was written stands for
-value-of-digit : (v : ℕ) → v < 16 → digitValue (digitOf v) ≡ v
+value-of-digit : (v : ℕ) → digitValue (digitOf v) ≡ v
 unfolding digitValue digitOf
-value-of-digit v h =
+value-of-digit v =
     by-test (ltb v 10)
     (λ (e : ltb v 10 ≡ true). rw (e, lt-ltb (48 + v) 65 (omega (arith, ltb-true v 10 e))) (omega arith))
     (λ (e : ltb v 10 ≡ false). rw (e, le-ltb (55 + v) 65 (omega (arith, ltb-false v 10 e))) (omega arith))
@@ -46,18 +46,14 @@ digit-of b h =
 
 -- ---- rows of bytes and lines of digits
 
-abbrev pub isByte : ℕ → Bool
-isByte b = ltb b 256
-
 -- bytes that are written are read back
-pub read-back : (frame : List ℕ) → all isByte frame ≡ true → frameOf (digitsOf frame) ≡ frame
-unfolding frameOf digitsOf all
-read-back [] h = refl
-read-back (b ∷ frame) h =
-    let low : b < 256 = ltb-true b 256 (and-left (isByte b) (all isByte frame) h) in
-    let high : digitValue (digitOf (b / 16)) ≡ b / 16 = value-of-digit (b / 16) (omega arith) in
-    let rest : digitValue (digitOf (b % 16)) ≡ b % 16 = value-of-digit (b % 16) (omega arith) in
-    ap₂ _∷_ (omega arith) (read-back frame (and-right (isByte b) (all isByte frame) h))
+pub read-back : (frame : List ℕ) → frameOf (digitsOf frame) ≡ frame
+unfolding frameOf digitsOf
+read-back [] = refl
+read-back (b ∷ frame) =
+    let high : digitValue (digitOf (b / 16)) ≡ b / 16 = value-of-digit (b / 16) in
+    let low : digitValue (digitOf (b % 16)) ≡ b % 16 = value-of-digit (b % 16) in
+    ap₂ _∷_ (omega arith) (read-back frame)
 
 -- digits that are read are the only ones that write what was read
 pub written-so : (line : List ℕ) → all isDigit line ≡ true → length line % 2 ≡ 0 → digitsOf (frameOf line) ≡ line
