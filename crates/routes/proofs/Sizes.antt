@@ -1,4 +1,4 @@
--- How many routes and cells there can be for at most 15 nodes and 4 numbers: so few that every sum of the code fits.
+-- How many routes there can be of at most 4 numbers over at most 15 nodes: so few that every product and every sum of the code fits.
 use mathlib.Core.Path.{refl}
 use Prim.Native.Nat.{ℕ, suc, _+_, _*_, _-_, _≤_, _<_}
 use native.Mathlib.Omega.{arith}

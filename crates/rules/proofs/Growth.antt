@@ -25,7 +25,7 @@ wider n n′ (suc k) h = omega (arith, wider n n′ k h, routes-grow n n′ (suc
 cells-grow : (n n′ k k′ : ℕ) → n ≤ n′ → k ≤ k′ → cellsBefore n k ≤ cellsBefore n′ k′
 cells-grow n n′ k k′ h h′ = omega (arith, wider n n′ k h, cells-ascend n′ k k′ h′)
 
--- 15 nodes and 4 rounds have 26,404
+-- rounds 0 to 3 of 15 nodes have 26,404
 pub cells-most : (n k b : ℕ) → b ≡ cellsBefore n k → n ≤ 15 → k ≤ 4 → b ≤ 26404
 unfolding cellsBefore routesOf
 cells-most n k b e few deep = rw e (cells-grow n 15 k 4 few deep)

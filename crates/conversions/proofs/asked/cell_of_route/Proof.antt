@@ -1,4 +1,4 @@
--- `conversions::cell_of_route` meets its contract: a refused call returns its number, an accepted route has a cell.
+-- `conversions::asked::cell_of_route` meets its contract: a refused call returns its number, an accepted route has a cell.
 use borrow.Author.Needs.{needs}
 use Rattle.conversions.proofs.Answered.{cell-not-found, route-nodes-byte, route-sender-byte, route-numbered, cell-fits-word, cell-is-found}
 use Rattle.conversions.proofs.asked.cell_of_route.Statement.{statement}

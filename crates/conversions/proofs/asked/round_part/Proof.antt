@@ -1,4 +1,4 @@
--- `conversions::round_part` meets its contract: the part that `round_place` names lies in the table, and is the caller's own memory.
+-- `conversions::asked::round_part` meets its contract: the part that `round_place` names lies in the table, and is the caller's own memory.
 use borrow.Author.Needs.{needs}
 use Rattle.rules.specs.Answers.{partOf}
 use Rattle.conversions.proofs.Answered.{part-ordered, part-inside}

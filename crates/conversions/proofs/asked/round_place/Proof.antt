@@ -1,4 +1,4 @@
--- `conversions::round_place` meets its contract: a refused call returns its number, an accepted round lies in the table.
+-- `conversions::asked::round_place` meets its contract: a refused call returns its number, an accepted round lies in the table.
 use native.Mathlib.Omega.{arith}
 use borrow.Author.Needs.{needs}
 use Rattle.rules.proofs.Growth.{cells-most}

@@ -1,4 +1,4 @@
--- `conversions::route_of_cell` meets its contract: a refused call returns its number, an accepted cell has a route.
+-- `conversions::asked::route_of_cell` meets its contract: a refused call returns its number, an accepted cell has a route.
 use borrow.Author.Needs.{needs}
 use Rattle.conversions.proofs.Answered.{route-not-found, cell-nodes-byte, cell-sender-byte, cell-rounds, round-depth, route-depth, round-fits, length-fits, place-in-round, route-is-found}
 use Rattle.conversions.proofs.asked.route_of_cell.Statement.{statement}

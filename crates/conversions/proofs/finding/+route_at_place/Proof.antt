@@ -1,4 +1,4 @@
--- `conversions::route_at_place` meets its contract. It calls itself on a length one less, so that length is the measure.
+-- `conversions::finding::route_at_place` meets its contract. It calls itself on a length one less, so that length is the measure.
 use Prim.Native.Nat.{ℕ, _<_}
 use native.Mathlib.Omega.{arith}
 use borrow.Author.Needs.{needs}

@@ -1,4 +1,4 @@
--- `conversions::nth_receiver` meets its contract: after x turns it has passed the receivers below x, no more than d.
+-- `conversions::finding::nth_receiver` meets its contract: after x turns it has passed the receivers below x, no more than d.
 use Prim.Native.Nat.{_-_}
 use mathlib.Core.Logic.{⊎-elim}
 use native.Mathlib.Omega.{arith}

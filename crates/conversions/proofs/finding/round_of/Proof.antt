@@ -1,4 +1,4 @@
--- `conversions::round_of` meets its contract: it goes down from the last round to the first that starts at the cell or before it.
+-- `conversions::finding::round_of` meets its contract: it goes down from the last round to the first that starts at the cell or before it.
 use native.Mathlib.Omega.{arith}
 use borrow.Author.Needs.{needs}
 use Rattle.conversions.proofs.Found.{RoundTo, round-start, round-here, round-lower, round-first}

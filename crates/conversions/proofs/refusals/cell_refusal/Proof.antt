@@ -1,4 +1,4 @@
--- `conversions::cell_refusal` meets its contract: each return follows from the tests that led there.
+-- `conversions::refusals::cell_refusal` meets its contract: each return follows from the tests that led there.
 use borrow.Author.Needs.{needs}
 use Rattle.rules.specs.Refusals.{cellReasons}
 use Rattle.conversions.proofs.Judged.{layout-stands, sender-stands, cell-refused, cell-taken, all-rounds}

@@ -1,4 +1,4 @@
--- `conversions::round_refusal` meets its contract: each return follows from the tests that led there.
+-- `conversions::refusals::round_refusal` meets its contract: each return follows from the tests that led there.
 use borrow.Author.Needs.{needs}
 use Rattle.rules.specs.Refusals.{partReasons}
 use Rattle.conversions.proofs.Judged.{layout-stands, table-refused, round-refused, round-taken, all-rounds, table-fits}

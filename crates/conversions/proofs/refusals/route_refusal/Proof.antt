@@ -1,4 +1,4 @@
--- `conversions::route_refusal` meets its contract: each return follows from the tests that led there.
+-- `conversions::refusals::route_refusal` meets its contract: each return follows from the tests that led there.
 use borrow.Author.Needs.{needs}
 use Rattle.rules.specs.Refusals.{routeReasons}
 use Rattle.conversions.proofs.Judged.{layout-stands, sender-stands, route-refused, route-taken, rounds-three, nodes-byte, sender-byte}

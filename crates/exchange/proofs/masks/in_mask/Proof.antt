@@ -1,3 +1,4 @@
+-- The mask is shifted by the node's number, which is less than its width.
 use borrow.Author.Needs.{needs}
 use Rattle.rules.specs.Words.{faulty}
 use Rattle.exchange.proofs.masks.in_mask.Statement.{statement}

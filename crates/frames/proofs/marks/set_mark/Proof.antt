@@ -1,3 +1,4 @@
+-- `frames::marks::set_mark` meets its contract: one bit is set in its byte.
 use Rattle.frames.proofs.Bits.{one-bit}
 use borrow.Author.Needs.{needs}
 use Rattle.scenario.specs.Marks.{mark}

@@ -1,4 +1,4 @@
--- `routes::cell_at` meets its contract: the cells of earlier rounds, and the route's place in its own.
+-- `routes::numbering::cell_at` meets its contract: the cells of earlier rounds, and the route's place in its own.
 use native.Mathlib.Omega.{arith}
 use borrow.Author.Needs.{needs}
 use Rattle.rules.proofs.Growth.{cells-most}

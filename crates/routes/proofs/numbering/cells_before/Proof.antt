@@ -1,4 +1,4 @@
--- `routes::cells_before` meets its contract: the rounds' sizes are multiplied out and added, and all of it is small.
+-- `routes::numbering::cells_before` meets its contract: the rounds' sizes are multiplied out and added, and all of it is small.
 use mathlib.Core.Path.{_≡_}
 use Prim.Native.Nat.{ℕ, _+_, _-_}
 use native.Mathlib.Omega.{arith}

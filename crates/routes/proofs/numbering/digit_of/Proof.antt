@@ -1,4 +1,4 @@
--- `routes::digit_of` meets its contract: one step for each of the first k numbers.
+-- `routes::numbering::digit_of` meets its contract: one step for each of the first k numbers.
 use mathlib.Core.Path.{_≡_}
 use native.Mathlib.Omega.{arith}
 use borrow.Author.Needs.{needs}

@@ -1,4 +1,4 @@
--- `routes::first_digit` meets its contract: all nodes below, less the sender if it is one of them.
+-- `routes::numbering::first_digit` meets its contract: all nodes below, less the sender if it is one of them.
 use borrow.Author.Needs.{needs}
 use Rattle.routes.proofs.Digits.{first-used, first-free}
 use Rattle.routes.proofs.numbering.first_digit.Statement.{statement}

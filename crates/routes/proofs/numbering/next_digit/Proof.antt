@@ -1,4 +1,4 @@
--- `routes::next_digit` meets its contract: a used node below takes one of the free ones away.
+-- `routes::numbering::next_digit` meets its contract: a used node below takes one of the free ones away.
 use borrow.Author.Needs.{needs}
 use Rattle.routes.proofs.Digits.{one-less, next-used, next-free}
 use Rattle.routes.proofs.numbering.next_digit.Statement.{statement}

@@ -1,4 +1,4 @@
--- `routes::next_rank` meets its contract: the rank of one number more, which is below the number of routes as long.
+-- `routes::numbering::next_rank` meets its contract: the rank of one number more, which is below the number of routes as long.
 use borrow.Author.Needs.{needs}
 use Rattle.routes.proofs.Digits.{ranked-apart, place-fits, next-fits, next-place}
 use Rattle.routes.proofs.numbering.next_rank.Statement.{statement}

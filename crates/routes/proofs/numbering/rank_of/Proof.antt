@@ -1,4 +1,4 @@
--- `routes::rank_of` meets its contract: one step for each number.
+-- `routes::numbering::rank_of` meets its contract: one step for each number.
 use mathlib.Core.Path.{_≡_, refl}
 use native.Mathlib.Omega.{arith}
 use borrow.Author.Needs.{needs}

@@ -1,4 +1,4 @@
--- `routes::extended` meets its contract: at each length the row of the longer route is written out.
+-- `routes::row::extended` meets its contract: at each length the row of the longer route is written out.
 use mathlib.Core.Path.{_≡_}
 use native.Mathlib.Omega.{arith}
 use borrow.Author.Needs.{needs}

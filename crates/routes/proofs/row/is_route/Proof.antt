@@ -1,4 +1,4 @@
--- `routes::is_route` meets its contract: after k turns the first k numbers are a path.
+-- `routes::row::is_route` meets its contract: after k turns the first k numbers are a path.
 use Prim.Native.Nat.{_-_}
 use native.Mathlib.Omega.{arith}
 use Rattle.routes.proofs.Given.{Passable, route-none, route-long, path-none, path-broken, path-more, path-whole}

@@ -1,4 +1,4 @@
--- `routes::receives` meets its contract: after i turns the node is none of the first i numbers.
+-- `routes::row::receives` meets its contract: after i turns the node is none of the first i numbers.
 use Prim.Native.Nat.{_-_}
 use native.Mathlib.Omega.{arith}
 use Rattle.routes.proofs.Given.{Unused, unused-none, unused-more, too-high, is-sender, is-used, may-receive}

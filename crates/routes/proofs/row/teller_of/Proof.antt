@@ -1,4 +1,4 @@
--- `routes::teller_of` meets its contract: at each length the teller's place is known.
+-- `routes::row::teller_of` meets its contract: at each length the teller's place is known.
 use mathlib.Core.Path.{_≡_}
 use native.Mathlib.Omega.{arith}
 use borrow.Author.Needs.{needs}
