@@ -80,8 +80,8 @@ written-none s t row e = record { passed = omega arith; size = e; bytes = refl; 
 
 module _ (s : Settings) (t row : List ℕ) (ties i : ℕ) (g : Given s t) (p : Written s t row ties i) where
   -- the ties fit, since there are few of them
-  pub written-ties : (d : Decided) → i < s .n → d ≡ slot s t i → Fits w32 (ties + d .ties)
-  written-ties d below ed =
+  pub written-ties : (d : Decided) → d ≡ slot s t i → Fits w32 (ties + d .ties)
+  written-ties d ed =
       let most = ties-most (s .n) (s .m) (layout-of s (g .judged)) in
       let one = mul-le-mul-right {m = 1} {n = s .n} (tiesMost (s .n) (s .m)) (omega (arith, g .judged .four)) in
       let all = mul-le-mul-right {m = i} {n = s .n} (tiesMost (s .n) (s .m)) (p .passed) in
