@@ -26,11 +26,12 @@ use Rattle.routes.specs.Needs.{Extendable}
 use Rattle.rules.specs.declared.Settings.{Settings}
 use Rattle.rules.specs.declared.Route as R
 use Rattle.rules.specs.declared.Decided.{Decided}
-use Rattle.exchange.specs.Ready.{Marked, Relayed, Ready, Gatherable}
+use Rattle.delivery.specs.Told.{Marked, Relayed}
+use Rattle.exchange.specs.Ready.{Ready, Gatherable}
 use Rattle.exchange.specs.Entries.{Gathered}
 use Rattle.exchange.proofs.Bytes
-use Rattle.exchange.proofs.Passing
-use Rattle.exchange.proofs.Marks
+use Rattle.delivery.proofs.Passing
+use Rattle.delivery.proofs.Marks
 use Rattle.exchange.proofs.Ties
 
 -- ---- the entries of the nodes below k

@@ -1,7 +1,4 @@
 pub mod Refusing
-pub mod Delivering
-pub mod Passing
-pub mod Marks
 pub mod Bytes
 pub mod Ties
 pub mod Gathering

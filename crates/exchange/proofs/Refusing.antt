@@ -3,13 +3,12 @@ use Prim.Native.Nat.{ℕ, _*_}
 use mathlib.Core.Path.{_≡_, sym, _∙_}
 use mathlib.Core.List.{[], _∷_}
 use native.Mathlib.Omega.{arith}
-use mir.Syntax.{w8, w64}
+use mir.Syntax.{w64}
 use mir.Val.{Fits}
 use borrow.Author.Tests.{eq-eqb, ne-eqb}
 use Rattle.rules.specs.Cells.{cells}
 use Rattle.rules.specs.Refusals.{because, first, wrongTable, wrongRow, settingsReasons, settingsRefusal, exchangeReasons, exchangeRefusal}
 use Rattle.rules.proofs.Refused.{settings-ascend, front-stands, rest-decides}
-use Rattle.rules.proofs.Accepted.{SettingsAccepted, settings-accepted}
 use Rattle.rules.proofs.Growth.{cells-few}
 use Rattle.rules.specs.declared.Settings.{Settings}
 
@@ -37,25 +36,6 @@ module _ (s : Settings) (table row k c : ℕ) (e : k ≡ settingsRefusal s) (z :
     pub lengths-pass : row ≡ 2 * s .n → 0 ≡ exchangeRefusal s table row
     unfolding first wrongTable wrongRow
     lengths-pass h = rw (lengths, ← ec, eq-eqb table (2 * c) right, eq-eqb row (2 * s .n) h)
-
--- ---- what passing the settings says of their sizes
-
-module _ (s : Settings) (pass : settingsRefusal s ≡ 0) where
-  facts : SettingsAccepted s
-  facts = settings-accepted s .0 pass
-
-  -- every number fits a byte
-  pub nodes-fit : Fits w8 (s .n)
-  nodes-fit = record { fits = omega (arith, facts .fifteen) }
-
-  pub rounds-fit : Fits w8 (s .m)
-  rounds-fit = record { fits = omega (arith, facts .three) }
-
-  pub bound-fits : Fits w8 (s .u)
-  bound-fits = record { fits = omega (arith, facts .enough, facts .fifteen) }
-
-  pub sender-fits : Fits w8 (s .sender)
-  sender-fits = record { fits = omega (arith, facts .sender-below, facts .fifteen) }
 
 -- two bytes a message
 pub cells-scaled : (s : Settings) (k c : ℕ) → k ≡ settingsRefusal s → k ≡ 0 → c ≡ cells (s .n) (s .m) → Fits w64 (2 * c)

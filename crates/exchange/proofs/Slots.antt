@@ -25,9 +25,10 @@ use Rattle.rules.proofs.Growth.{tiesMost, ties-most}
 use Rattle.rules.proofs.Summaries.{total-most, slot-ties}
 use Rattle.rules.specs.declared.Settings.{Settings}
 use Rattle.rules.specs.declared.Decided.{Decided}
-use Rattle.exchange.specs.Ready.{Given, Ready, Slotted}
+use Rattle.delivery.specs.Told.{Given}
+use Rattle.exchange.specs.Ready.{Ready, Slotted}
 use Rattle.exchange.proofs.Bytes
-use Rattle.exchange.proofs.Marks
+use Rattle.delivery.proofs.Marks
 
 -- ---- one slot
 

@@ -4,17 +4,15 @@ ghost use mathlib.Core.Path.{_≡_};
 ghost use lib.ListN.{length};
 ghost use Rattle.rules.specs.Exchange.{summaryOf, rowAfter, classOf};
 
-mod judging; // what is turned away, and judged settings
-mod masks; // masks of nodes
-mod told; // the word delivered on a route
+mod judging; // what is turned away
 mod deciding; // a receiver's entries and their vote
 mod row; // the decision row
 
-use judging::narrowed;
 use judging::refusal;
 use row::play;
 use rules::Settings;
 use rules::Summary;
+use settings::narrowed;
 
 // 1 if f ≤ m, 2 if m < f ≤ u, 3 if f > u.
 fn class_of(f: u32, m: u32, u: u32) -> u32

@@ -1,14 +1,14 @@
 // The decision row.
 ghost use mathlib.Core.Path.{_≡_};
 ghost use Rattle.rules.specs.Exchange.{slot, rowOf, tieCount};
-ghost use Rattle.exchange.specs.Judged.{settingsOf};
+ghost use Rattle.settings.specs.Judged.{settingsOf};
 ghost use Rattle.exchange.specs.Ready.{Slotted, Played};
 use crate::deciding::decide;
-use crate::judging::Judged;
-use crate::masks::in_mask;
-use crate::masks::marked;
+use delivery::in_mask;
+use delivery::marked;
 use rules::Decided;
 use rules::Route;
+use settings::Judged;
 use words::put_word;
 use words::wide;
 

@@ -1,3 +1,4 @@
 pub mod Refusing
 pub mod Depths
+pub mod Narrowing
 pub mod Unique

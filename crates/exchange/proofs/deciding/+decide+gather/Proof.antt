@@ -5,7 +5,7 @@ use native.Mathlib.Omega.{arith}
 use mathlib.Core.Path.{_∙_}
 use mathlib.Core.Logic.{⊎-elim}
 use Prim.Native.Nat.{_+_, _-_}
-use Rattle.exchange.specs.Judged.{settingsOf}
+use Rattle.settings.specs.Judged.{settingsOf}
 use Rattle.exchange.proofs.Gathering
 use Rattle.exchange.proofs.Verdict
 use Prim.Native.Nat.{ℕ, _<_}
@@ -17,11 +17,11 @@ use Rattle.exchange.proofs.deciding.+decide+gather.Lts-decide as decide
 use Rattle.exchange.proofs.deciding.gather.Reads as gather
 use Rattle.exchange.proofs.deciding.gather.Kinds as gather-kinds
 use Rattle.exchange.proofs.deciding.+decide+gather.Lts-gather as gather-lts
-use Rattle.exchange.proofs.masks.marked.Reads as marked-reads
-use Rattle.exchange.proofs.masks.in_mask.Reads as in-mask-reads
+use Rattle.delivery.proofs.marked.Reads as marked-reads
+use Rattle.delivery.proofs.in_mask.Reads as in-mask-reads
 use Rattle.votes.proofs.tally.Reads as tally-reads
-use Rattle.exchange.proofs.told.arrives.Reads as arrives-reads
-use Rattle.exchange.proofs.told.relayed.Reads as relayed-reads
+use Rattle.delivery.proofs.arrives.Reads as arrives-reads
+use Rattle.delivery.proofs.relayed.Reads as relayed-reads
 use Rattle.routes.proofs.extended.Reads as extended-reads
 use Rattle.words.proofs.put_word.Reads as put-word-reads
 use Rattle.words.proofs.wide.Reads as wide-reads

@@ -2,7 +2,7 @@
 use native.Mathlib.Omega.{arith}
 use borrow.Author.Needs.{needs}
 use Prim.Native.Nat.{_-_}
-use Rattle.exchange.specs.Judged.{settingsOf}
+use Rattle.settings.specs.Judged.{settingsOf}
 use Rattle.exchange.proofs.Slots
 use Rattle.exchange.proofs.row.play.Statement.{statement}
 use Rattle.exchange.proofs.row.play.Tie as tie

@@ -14,7 +14,7 @@ use Rattle.rules.proofs.Numbering.{is-route}
 use Rattle.rules.proofs.Rows.{length-back}
 use Rattle.rules.specs.declared.Settings.{Settings}
 use Rattle.rules.specs.declared.Route as R
-use Rattle.exchange.specs.Ready.{Told}
+use Rattle.delivery.specs.Told.{Told}
 use Rattle.routes.specs.Needs.{Short, Numbered}
 
 -- ---- over a row and a length

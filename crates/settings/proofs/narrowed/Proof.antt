@@ -1,20 +1,20 @@
 -- Accepted numbers are small, so nothing is cut off.
-use Rattle.exchange.proofs.Refusing
+use Rattle.settings.proofs.Narrowing
 use borrow.Author.Needs.{needs}
-use Rattle.exchange.proofs.judging.narrowed.Statement.{statement}
-use Rattle.exchange.proofs.judging.narrowed.Tie as tie
+use Rattle.settings.proofs.narrowed.Statement.{statement}
+use Rattle.settings.proofs.narrowed.Tie as tie
 
 cast-t2 : tie.Need-cast-t2
-cast-t2 c = search Refusing.nodes-fit
+cast-t2 c = search Narrowing.nodes-fit
 
 cast-t3 : tie.Need-cast-t3
-cast-t3 c = search Refusing.rounds-fit
+cast-t3 c = search Narrowing.rounds-fit
 
 cast-t4 : tie.Need-cast-t4
-cast-t4 c = search Refusing.bound-fits
+cast-t4 c = search Narrowing.bound-fits
 
 cast-t5 : tie.Need-cast-t5
-cast-t5 c = search Refusing.sender-fits
+cast-t5 c = search Narrowing.sender-fits
 
 returns : tie.Need-returns
 returns c = search needs

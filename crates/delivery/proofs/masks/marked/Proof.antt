@@ -1,8 +1,8 @@
 -- A shifted 1 stays within its word.
 use borrow.Author.Needs.{needs}
-use Rattle.exchange.proofs.Marks
-use Rattle.exchange.proofs.masks.marked.Statement.{statement}
-use Rattle.exchange.proofs.masks.marked.Tie as tie
+use Rattle.delivery.proofs.Marks
+use Rattle.delivery.proofs.masks.marked.Statement.{statement}
+use Rattle.delivery.proofs.masks.marked.Tie as tie
 
 shl-result : tie.Need-shl-result
 shl-result c = search needs

@@ -2,10 +2,10 @@
 use borrow.Author.Needs.{needs}
 use mathlib.Core.Path.{refl}
 use mathlib.Core.Logic.{⊎-elim}
-use Rattle.exchange.proofs.Delivering
-use Rattle.exchange.proofs.Passing
-use Rattle.exchange.proofs.told.relayed.Statement.{statement}
-use Rattle.exchange.proofs.told.relayed.Tie as tie
+use Rattle.delivery.proofs.Delivering
+use Rattle.delivery.proofs.Passing
+use Rattle.delivery.proofs.told.relayed.Statement.{statement}
+use Rattle.delivery.proofs.told.relayed.Tie as tie
 
 in-mask-requires : tie.Need-in-mask-requires
 in-mask-requires c κs = search Passing.relay-lt

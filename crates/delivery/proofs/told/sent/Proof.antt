@@ -1,9 +1,9 @@
 -- A fault-free sender told its value, a faulty one what the cell holds.
 use mathlib.Core.Path.{refl}
-use Rattle.exchange.proofs.Delivering
-use Rattle.exchange.proofs.Passing
-use Rattle.exchange.proofs.told.sent.Statement.{statement}
-use Rattle.exchange.proofs.told.sent.Tie as tie
+use Rattle.delivery.proofs.Delivering
+use Rattle.delivery.proofs.Passing
+use Rattle.delivery.proofs.told.sent.Statement.{statement}
+use Rattle.delivery.proofs.told.sent.Tie as tie
 
 in-mask-requires : tie.Need-in-mask-requires
 in-mask-requires c κs = search Passing.sender-lt

@@ -4,15 +4,15 @@ ghost use mathlib.Core.List.{[], _∷_};
 ghost use Rattle.rules.specs.Routes.{held};
 ghost use Rattle.rules.specs.Decision.{via};
 ghost use Rattle.rules.specs.Delivered.{delivered};
-ghost use Rattle.exchange.specs.Judged.{settingsOf};
-ghost use Rattle.exchange.specs.Ready.{Told, Sent, Marked, Relayed};
-use crate::judging::Judged;
+ghost use Rattle.settings.specs.Judged.{settingsOf};
+ghost use Rattle.delivery.specs.Told.{Told, Sent, Marked, Relayed};
 use crate::masks::in_mask;
 use routes::cell_at;
 use routes::extended;
 use routes::shortened;
 use routes::teller_of;
 use rules::Route;
+use settings::Judged;
 use words::plain_at;
 
 // A faulty teller tells what the cell holds. A fault-free one passes on the word that it was itself told, which stands on the

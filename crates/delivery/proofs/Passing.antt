@@ -22,9 +22,9 @@ use Rattle.rules.proofs.Clauses.{told-by-faulty}
 use Rattle.rules.specs.declared.Settings.{Settings}
 use Rattle.rules.specs.declared.Route as R
 use Rattle.routes.specs.Needs.{Extendable}
-use Rattle.exchange.specs.Ready.{Told, Sent, Marks, Marked, Relayed}
-use Rattle.exchange.proofs.Delivering.{on-none, from-cell, passed-on}
-use Rattle.exchange.proofs.Marks
+use Rattle.delivery.specs.Told.{Told, Sent, Marks, Marked, Relayed}
+use Rattle.delivery.proofs.Delivering.{on-none, from-cell, passed-on}
+use Rattle.delivery.proofs.Marks
 
 -- ---- what the sender told a node
 

@@ -15,7 +15,7 @@ use Rattle.rules.specs.Routes.{free, receiver}
 use Rattle.rules.specs.Decision.{via}
 use Rattle.rules.proofs.Counting.{by-test}
 use Rattle.rules.proofs.Receivers.{free-swap, receiver-is-free}
-use Rattle.exchange.specs.Ready.{Marks}
+use Rattle.delivery.specs.Told.{Marks}
 
 -- ---- the bits of a power of two
 

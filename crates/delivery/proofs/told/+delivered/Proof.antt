@@ -1,19 +1,19 @@
 -- The measure is the route's length, which falls by one at each call.
 use native.Mathlib.Omega.{arith}
-use Rattle.exchange.proofs.Delivering
+use Rattle.delivery.proofs.Delivering
 use Prim.Native.Nat.{ℕ, _<_}
 use borrow.Fn.Kinds.{In}
 use borrow.Fn.PlainCycle.{Measures, is, falls, and}
-use Rattle.exchange.proofs.told.delivered.Reads as delivered
-use Rattle.exchange.proofs.told.delivered.Kinds as delivered-kinds
-use Rattle.exchange.proofs.told.+delivered.Lts-delivered as delivered-lts
-use Rattle.exchange.proofs.masks.in_mask.Reads as in-mask-reads
+use Rattle.delivery.proofs.told.delivered.Reads as delivered
+use Rattle.delivery.proofs.told.delivered.Kinds as delivered-kinds
+use Rattle.delivery.proofs.told.+delivered.Lts-delivered as delivered-lts
+use Rattle.delivery.proofs.masks.in_mask.Reads as in-mask-reads
 use Rattle.routes.proofs.cell_at.Reads as cell-at-reads
 use Rattle.routes.proofs.shortened.Reads as shortened-reads
 use Rattle.routes.proofs.teller_of.Reads as teller-of-reads
 use Rattle.words.proofs.plain_at.Reads as plain-at-reads
-use Rattle.exchange.proofs.told.+delivered.{statement}
-use Rattle.exchange.proofs.told.+delivered.Tie.{close}
+use Rattle.delivery.proofs.told.+delivered.{statement}
+use Rattle.delivery.proofs.told.+delivered.Tie.{close}
 
 abbrev μ-delivered : Measures 1 delivered-kinds.ps ℕ
 μ-delivered κs a = a .1 .1 .0 .len

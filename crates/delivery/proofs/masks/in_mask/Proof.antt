@@ -1,8 +1,8 @@
 -- The mask is shifted by the node's number, which is less than its width.
 use borrow.Author.Needs.{needs}
 use Rattle.rules.specs.Words.{faulty}
-use Rattle.exchange.proofs.masks.in_mask.Statement.{statement}
-use Rattle.exchange.proofs.masks.in_mask.Tie as tie
+use Rattle.delivery.proofs.masks.in_mask.Statement.{statement}
+use Rattle.delivery.proofs.masks.in_mask.Tie as tie
 
 shr-result : tie.Need-shr-result
 shr-result c = search needs

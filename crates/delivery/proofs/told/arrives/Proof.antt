@@ -1,8 +1,8 @@
 -- Where the mask has no faulty node in it, what the first on the route was told came through.
 use borrow.Author.Needs.{needs}
-use Rattle.exchange.proofs.Passing
-use Rattle.exchange.proofs.told.arrives.Statement.{statement}
-use Rattle.exchange.proofs.told.arrives.Tie as tie
+use Rattle.delivery.proofs.Passing
+use Rattle.delivery.proofs.told.arrives.Statement.{statement}
+use Rattle.delivery.proofs.told.arrives.Tie as tie
 
 delivered-requires : tie.Need-delivered-requires
 delivered-requires c κs = search needs

@@ -1,0 +1,4 @@
+pub mod Delivering
+pub mod Marks
+pub mod Passing
+pub mod Unique
