@@ -116,27 +116,33 @@ module _ (s : Settings) (t : List ℕ) (r : R.Route) (used : ℕ) (p : Marked s 
 
 -- and on the route with one relay more
 module _ (s : Settings) (t : List ℕ) (r : R.Route) (used relay : ℕ) (p : Relayed s t r used relay) where
-  -- a word is delivered on it
-  pub relay-told : (e : R.Route) → e ≡ rowOfRoute (via relay (held r)) → Told s t e
-  unfolding rowOfRoute
-  relay-told e ee =
-      let len : e .len ≡ r .len + 1 = ap (λ (q : R.Route). q .len) ee ∙ omega (arith, length-via relay (held r), length-back (r .nodes) (r .len)) in
-      record {
-        given = p .marked .told .given;
-        some = omega (arith, len);
-        short = omega (arith, len, p .room);
-        path = rw (ap held ee ∙ held-row (via relay (held r))) (path-via (s .n) (s .sender) relay (held r) (p .marked .told .path) (p .next));
-      }
+  -- made as a row it is the same route
+  module _ (e : R.Route) (ee : e ≡ rowOfRoute (via relay (held r))) where
+    pub relay-held : held e ≡ via relay (held r)
+    relay-held = ap held ee ∙ held-row (via relay (held r))
+
+    pub relay-length : e .len ≡ r .len + 1
+    unfolding rowOfRoute
+    relay-length = ap (λ (q : R.Route). q .len) ee ∙ omega (arith, length-via relay (held r), length-back (r .nodes) (r .len))
+
+    -- a word is delivered on it
+    pub relay-told : Told s t e
+    relay-told =
+        record {
+          given = p .marked .told .given;
+          some = omega (arith, relay-length);
+          short = omega (arith, relay-length, p .room);
+          path = rw relay-held (path-via (s .n) (s .sender) relay (held r) (p .marked .told .path) (p .next));
+        }
+
+    pub relay-row : (w : ℕ) → w ≡ delivered s t (held e) → w ≡ delivered s t (via relay (held r))
+    relay-row w ew = ew ∙ ap (delivered s t) relay-held
 
   pub relay-extends : Extendable r
   relay-extends = record { some = p .marked .told .some; room = omega (arith, p .room, p .marked .told .given .judged .three) }
 
   pub relay-lt : relay < 16
   relay-lt = omega (arith, receiver-below (s .n) (s .sender) (held r) relay (p .next), p .marked .told .given .judged .fifteen)
-
-  -- made as a row it is the same route
-  pub relay-row : (e : R.Route) (w : ℕ) → e ≡ rowOfRoute (via relay (held r)) → w ≡ delivered s t (held e) → w ≡ delivered s t (via relay (held r))
-  relay-row e w ee ew = ew ∙ ap (delivered s t) (ap held ee ∙ held-row (via relay (held r)))
 
   -- its last number apart
   via-apart : via relay (held r) ≡ getD (r .nodes) (r .len - 1) 0 ∷ relay ∷ back (r .nodes) (r .len - 1)
@@ -148,7 +154,7 @@ module _ (s : Settings) (t : List ℕ) (r : R.Route) (used relay : ℕ) (p : Rel
       → c ≡ cell (s .n) (s .sender) (held e) → w ≡ plain (wordAt t c) → w ≡ delivered s t (via relay (held r))
   relay-cell e c w b ee eb on ec ew =
       ew
-      ∙ rw (ec, ap held ee ∙ held-row (via relay (held r)), via-apart)
+      ∙ rw (ec, relay-held e ee, via-apart)
       (sym (told-by-faulty s t (getD (r .nodes) (r .len - 1) 0) (relay ∷ back (r .nodes) (r .len - 1)) (sym eb ∙ on)))
 
   -- where neither the relay nor a number of the route is faulty, none on the longer route is

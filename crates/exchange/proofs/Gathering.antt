@@ -19,8 +19,7 @@ use Rattle.rules.proofs.Counting.{count-upTo, gather-yes, gather-no, total-snoc
 use Rattle.rules.proofs.WordRows.{put-length}
 use Rattle.rules.proofs.Receivers.{size, level-size}
 use Rattle.rules.proofs.Numbering.{count-past}
-use Rattle.rules.proofs.Rows.{length-back, held-row}
-use Rattle.rules.proofs.Relays.{length-via}
+use Rattle.rules.proofs.Rows.{length-back}
 use Rattle.rules.proofs.Clauses.{byz-told}
 use Rattle.routes.specs.Needs.{Extendable}
 use Rattle.rules.specs.declared.Settings.{Settings}
@@ -58,17 +57,15 @@ module _ (s : Settings) (t : List ℕ) (r : R.Route) (used left j : ℕ) (p : Re
 
   -- and with more than one round left the receiver decides on the longer route
   extended-ready : (e : R.Route) (used′ : ℕ) → e ≡ rowOfRoute (via j (held r)) → (left ≡ 1 → ⊥) → used′ ≡ bitOr used (2 ^ j) → Ready s t e used′ (left - 1)
-  unfolding rowOfRoute
   extended-ready e used′ ee more eu =
       let told = Passing.relay-told s t r used j extended-relay e ee in
-      let len : e .len ≡ r .len + 1 = ap (λ (q : R.Route). q .len) ee ∙ omega (arith, length-via j (held r), length-back (r .nodes) (r .len)) in
       record {
         given = p .given;
         some = told .some;
         more = omega (arith, p .more);
-        short = omega (arith, len, p .short, p .more);
+        short = omega (arith, Passing.relay-length s t r used j extended-relay e ee, p .short, p .more);
         path = told .path;
-        marks = rw (ap held ee ∙ held-row (via j (held r))) (Marks.marks-via used used′ j (held r) (p .marks) eu);
+        marks = rw (Passing.relay-held s t r used j extended-relay e ee) (Marks.marks-via used used′ j (held r) (p .marks) eu);
       }
 
 -- ---- what is held once the nodes below j are passed
@@ -185,7 +182,7 @@ module _ (s : Settings) (t : List ℕ) (r : R.Route) (used left taken : ℕ) (by
     turn-last w d one ew ed = let z : left - 1 ≡ 0 = omega arith in ed ∙ rw (z, ew) (sym (byz-told s t (via j (held r))))
 
     pub turn-deeper : (e : R.Route) (d d′ : Decided) → e ≡ rowOfRoute (via j (held r)) → d′ ≡ byz s t (left - 1) (held e) → d ≡ d′ → d ≡ byz s t (left - 1) (via j (held r))
-    turn-deeper e d d′ ee ed e′ = e′ ∙ ed ∙ ap (byz s t (left - 1)) (ap held ee ∙ held-row (via j (held r)))
+    turn-deeper e d d′ ee ed e′ = e′ ∙ ed ∙ ap (byz s t (left - 1)) (Passing.relay-held s t r used j turn-relayed e ee)
 
     module _ (d : Decided) (ed : d ≡ byz s t (left - 1) (via j (held r))) where
       -- its ties are added
