@@ -26,7 +26,7 @@ fn write_refusal(k: u8, line: u16, out: &mut [u8]) -> usize
 }
 
 // What an exchange gives: its summary, and its decision row with zeros behind it.
-#[derive(Drop)]
+#[derive(Clone, Copy)]
 struct Played {
     summary: Summary,
     row: [u8; 30],

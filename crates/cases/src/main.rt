@@ -1,5 +1,6 @@
 // The worked numbers of the paper that are not P1 to P14, and the slips seen before at depths 2 and 3, run through the library.
 // The file stdout holds the answers as they were written down beforehand.
+#![tactic(auto)]
 use libc::STDOUT_FILENO;
 use rules::{Route, Settings};
 

@@ -14,7 +14,7 @@ use votes::tally;
 use words::{put_word, wide};
 
 // How many entries a receiver has, and the ties met on the way to them.
-#[derive(Drop)]
+#[derive(Clone, Copy)]
 pub struct Entries {
     pub count: usize,
     pub ties: u32,

@@ -1,5 +1,6 @@
 // What the package's C host calls, on numbers and byte slices. Each function hands on what it got and judges nothing; its contract
 // is that of the function it calls, restated whole. include/tsegumbar.h declares the same functions for C.
+#![tactic(auto)]
 ghost use Rattle.std.specs.Prelude.{◌≡◌, [], ◌∷◌, length};
 ghost use Rattle.rules.specs.Words.{settings};
 ghost use Rattle.rules.specs.Exchange.{summary_of, row_after};

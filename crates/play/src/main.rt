@@ -1,5 +1,6 @@
 // The program for one exchange: it moves the bytes of standard input to the reader of scenario files and writes the reader's
 // answer. It judges nothing itself. A read that fails is no end of the input: then nothing is written.
+#![tactic(auto)]
 ghost use Rattle.scenario.specs.Reasons.{desk};
 ghost use Rattle.scenario.specs.File.{begun};
 ghost use Rattle.play.specs.Pieces.{Fed};
@@ -7,7 +8,7 @@ ghost use Rattle.play.specs.Pieces.{Fed};
 use scenario::Reader;
 
 // What reading brought: the reader after it, whether more may come, and whether no read failed.
-#[derive(Drop)]
+#[derive(Clone, Copy)]
 struct Turn {
     reader: Reader,
     more: bool,

@@ -1,4 +1,5 @@
 // Routes by value and their numbering.
+#![tactic(auto)]
 mod numbering; // the cell of a route
 mod row; // a route as a row of places
 

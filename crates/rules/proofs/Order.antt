@@ -1,19 +1,34 @@
 -- Ascending order of rows of numbers, the first number weighing most.
-use Prim.Native.Nat.{ℕ, ◌<◌}
-use mathlib.Core.List.{List, [], ◌∷◌, ◌++◌}
-use native.Mathlib.Omega.{arith}
+use Rattle.std.proofs.Common.{ℕ, ◌<◌, ◌≡◌, ◌⊎◌, inl, inr, refl, List, [], ◌∷◌, ◌++◌, arith}
 
 -- x stands before y: at the first place where they differ, x has the smaller number
 pub data Before : List ℕ → List ℕ → Type 0 where
   first-differs : {a b : ℕ} {x y : List ℕ} → a < b → Before (a ∷ x) (b ∷ y)
   first-same : {a : ℕ} {x y : List ℕ} → Before x y → Before (a ∷ x) (a ∷ y)
 
+-- the same by the rows' first numbers
+Stands : List ℕ → List ℕ → Type 0
+Stands [] y = ⊥
+Stands (a ∷ x) [] = ⊥
+Stands (a ∷ x) (b ∷ y) = (a < b) ⊎ ((a ≡ b) × Stands x y)
+
+stands : {x y : List ℕ} → Before x y → Stands x y
+unfolding Stands
+stands (first-differs h) = inl h
+stands (first-same h) = inr (refl, stands h)
+
+stands-one-way : (x y : List ℕ) → Stands x y → Stands y x → ⊥
+unfolding Stands
+stands-one-way [] y s t = s
+stands-one-way (a ∷ x) [] s t = s
+stands-one-way (a ∷ x) (b ∷ y) (inl h) (inl k) = omega arith
+stands-one-way (a ∷ x) (b ∷ y) (inl h) (inr k) = omega (arith, k.0)
+stands-one-way (a ∷ x) (b ∷ y) (inr h) (inl k) = omega (arith, h.0)
+stands-one-way (a ∷ x) (b ∷ y) (inr h) (inr k) = stands-one-way x y h.1 k.1
+
 -- not both ways, and so no row stands before itself
 pub before-one-way : {x y : List ℕ} → Before x y → Before y x → ⊥
-before-one-way (first-differs h) (first-differs k) = omega arith
-before-one-way (first-differs h) (first-same k) = omega arith
-before-one-way (first-same h) (first-differs k) = omega arith
-before-one-way (first-same h) (first-same k) = before-one-way h k
+before-one-way {x = x} {y = y} h k = stands-one-way x y (stands h) (stands k)
 
 -- what follows does not matter once two rows differ
 pub before-rest : {x y : List ℕ} (u v : List ℕ) → Before x y → Before (x ++ u) (y ++ v)

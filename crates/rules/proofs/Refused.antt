@@ -134,6 +134,7 @@ applies-above i j (r ∷ rs) up (inr a) =
 
 first-lowest : (k j : ℕ) (l : List Reason) → ascending j (numbers l) ≡ true → FirstApplies k l → Lowest k l
 unfolding Applies
+first-lowest k j [] up f = elim f [ ]
 first-lowest k j (r ∷ rs) up (here n y) = record { holds = inl (n, y); least = least }
   where
     least : (i : ℕ) → i < k → ¬ Applies i (r ∷ rs)

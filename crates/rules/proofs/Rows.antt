@@ -28,12 +28,25 @@ unfolding back written
 written_back row zero h = refl
 written_back row (suc k) h = rw (take-suc row k 0 h, written_back row k (omega arith))
 
+-- one number more is read in front of those read so far
+back-none : (row : List ℕ) → back row 0 ≡ []
+unfolding back
+back-none row = refl
+
+back-more : (row p : List ℕ) (k a : ℕ) → get_or row k 0 ≡ a → back row k ≡ p → back row (suc k) ≡ a ∷ p
+unfolding back
+back-more row p k a number others = rw (number, others)
+
 -- held again, a written route is the route, whatever stands behind it in the row
 back-written : (p rest : List ℕ) → back (written p ++ rest) (length p) ≡ p
-unfolding back written
-back-written [] rest = refl
+unfolding written
+back-written [] rest = back-none rest
 back-written (a ∷ p) rest =
-    rw (append_assoc (written p) (a ∷ []) rest, get_or_at (written p) a rest 0 (length p) (length-written p), back-written p (a ∷ rest))
+    let row : written (a ∷ p) ++ rest ≡ written p ++ (a ∷ rest) = append_assoc (written p) (a ∷ []) rest in
+    let number : get_or (written p ++ (a ∷ rest)) (length p) 0 ≡ a = get_or_at (written p) a rest 0 (length p) (length-written p) in
+    let long : back (written p ++ (a ∷ rest)) (suc (length p)) ≡ a ∷ p =
+        back-more (written p ++ (a ∷ rest)) p (length p) a number (back-written p (a ∷ rest)) in
+    ap (λ w. back w (suc (length p))) row ∙ long
 
 -- a returned route is the route that was found
 pub held-row : (p : List ℕ) → held (row_of_route p) ≡ p

@@ -1,8 +1,9 @@
 // The types that a definition of specs/ names. There is no function here: what the rules say is in specs/, what is true of
 // them in proofs/, and the code that follows them in the crates above.
+#![tactic(auto)]
 
 // All that is given to an exchange except the table and the decision row.
-#[derive(Drop)]
+#[derive(Clone, Copy)]
 pub struct Settings {
     pub n: u32,
     pub m: u32,
@@ -14,21 +15,21 @@ pub struct Settings {
 
 // A row of up to four node numbers, in the order in which a file writes them, and its length.
 #[repr(C)]
-#[derive(Drop)]
+#[derive(Clone, Copy)]
 pub struct Route {
     pub nodes: [u8; 4],
     pub len: u32,
 }
 
 // What a vote returns: its value, and whether it met a tie.
-#[derive(Drop)]
+#[derive(Clone, Copy)]
 pub struct Outcome {
     pub word: u16,
     pub tie: bool,
 }
 
 // What a node decides, and how many of the votes behind it met a tie.
-#[derive(Drop)]
+#[derive(Clone, Copy)]
 pub struct Decided {
     pub word: u16,
     pub ties: u32,
@@ -36,7 +37,7 @@ pub struct Decided {
 
 // What an exchange returns.
 #[repr(C)]
-#[derive(Drop)]
+#[derive(Clone, Copy)]
 pub struct Summary {
     pub refusal: u32,
     pub faults: u32,
@@ -47,7 +48,7 @@ pub struct Summary {
 
 // What the vote alone returns.
 #[repr(C)]
-#[derive(Drop)]
+#[derive(Clone, Copy)]
 pub struct Ballot {
     pub refusal: u32,
     pub word: u16,
@@ -56,7 +57,7 @@ pub struct Ballot {
 
 // What the way from a route to its cell returns.
 #[repr(C)]
-#[derive(Drop)]
+#[derive(Clone, Copy)]
 pub struct CellFound {
     pub refusal: u32,
     pub cell: u32,
@@ -64,7 +65,7 @@ pub struct CellFound {
 
 // What the way from a cell to its route returns.
 #[repr(C)]
-#[derive(Drop)]
+#[derive(Clone, Copy)]
 pub struct RouteFound {
     pub refusal: u32,
     pub route: Route,
@@ -72,7 +73,7 @@ pub struct RouteFound {
 
 // Where one round's part of a table starts and ends, in bytes.
 #[repr(C)]
-#[derive(Drop)]
+#[derive(Clone, Copy)]
 pub struct RoundPart {
     pub refusal: u32,
     pub start: u32,

@@ -1,9 +1,10 @@
 // Scenario files: bytes are fed to a reader that passes by value, over a lent table and lent marks.
+#![tactic(auto)]
 
 use rules::Settings;
 
 // A file read so far.
-#[derive(Drop)]
+#[derive(Clone, Copy)]
 pub struct Reader {
     // 0 before the `01` line, 1 after it, 2 after the `03` line
     pub stage: u8,
