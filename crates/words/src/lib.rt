@@ -11,6 +11,7 @@ pub fn wide(byte: u8) -> usize
 }
 
 // The word in a place of a row of bytes.
+#[tactic(auto, unfolding(rules::specs::Words::word_at))]
 pub fn word_at(bytes: &[u8], place: usize) -> u16
     requires { 2 * place + 1 < length bytes.now }
     ensures { result ≡ word_at bytes.now place }
@@ -22,6 +23,7 @@ pub fn word_at(bytes: &[u8], place: usize) -> u16
 }
 
 // The word in a place as it counts: a reserved one is the default.
+#[tactic(auto, unfolding(rules::specs::Words::plain, rules::specs::Words::reserved))]
 pub fn plain_at(bytes: &[u8], place: usize) -> u16
     requires { 2 * place + 1 < length bytes.now }
     ensures { result ≡ plain (word_at bytes.now place) }
@@ -44,6 +46,7 @@ pub fn low_byte(word: u16) -> u8
 }
 
 // Puts a word into a place of a row of bytes; the other bytes stay.
+#[tactic(auto, unfolding(rules::specs::Words::put_word))]
 pub fn put_word(bytes: &mut [u8], place: usize, word: u16)
     requires { 2 * place + 1 < length bytes.old }
     ensures { bytes.new ≡ put_word bytes.old place word }
