@@ -9,6 +9,7 @@ ghost use Rattle.routes.specs.Needs.{Extendable, Short};
 use rules::Route;
 
 // The route with a relay put before its receiver.
+#[tactic(auto, unfolding(rules::specs::Answers::row_of_route, rules::specs::Decision::via, rules::specs::Routes::back, rules::specs::Routes::written))]
 pub fn extended(r: Route, relay: u8) -> Route
     requires { Extendable r }
     ensures { result ≡ row_of_route (via relay (held r)) }
@@ -47,6 +48,7 @@ pub fn shortened(r: Route) -> Route
 }
 
 // Who tells a route's receiver: the number before the last, and the sender where there is none.
+#[tactic(auto, unfolding(rules::specs::Routes::back))]
 pub fn teller_of(r: Route, sender: u8) -> u8
     requires { Short r }
     ensures { result ≡ teller sender (but_last (held r)) }

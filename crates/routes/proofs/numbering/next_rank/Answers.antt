@@ -1,0 +1,16 @@
+-- `routes::numbering::next_rank`: one number more.
+use Rattle.std.proofs.Common.{rules}
+use Rattle.routes.proofs.Digits.{place-fits, ranked-apart, next_fits, next_place}
+use Rattle.routes.proofs.numbering.next_rank.Goals as goal
+
+pub overflow_mul-result : goal.overflow_mul-result
+overflow_mul-result c = search place-fits
+
+pub digit_of-requires : goal.digit_of-requires
+digit_of-requires c = search ranked-apart
+
+pub overflow_add-result : goal.overflow_add-result
+overflow_add-result c = search next_fits
+
+pub returns : goal.returns
+returns c = search next_place
