@@ -59,6 +59,7 @@ pub fn settings_refusal(s: Settings) -> u32
 }
 
 // 1, 2 or 4, the lowest that applies, or 0: nodes and rounds where no u is taken.
+#[tactic(auto, unfolding(rules::specs::Refusals::first, rules::specs::Refusals::layout_reasons, rules::specs::Refusals::wrong_nodes, rules::specs::Refusals::wrong_rounds, rules::specs::Refusals::too_few_alone))]
 pub fn layout_refusal(n: u32, m: u32) -> u32
     ensures { result ≡ first (layout_reasons n m) }
 {
@@ -75,6 +76,7 @@ pub fn layout_refusal(n: u32, m: u32) -> u32
 }
 
 // M, the messages of an exchange among n nodes: one for each cell of rounds 0 to m.
+#[tactic(auto, unfolding(rules::specs::Cells::cells))]
 pub fn message_count(n: u32, m: u32) -> usize
     requires { Depth n (m + 1) }
     ensures { result ≡ cells n m }
