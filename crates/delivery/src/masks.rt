@@ -4,6 +4,7 @@ ghost use Rattle.std.specs.Int.Bits.{bit_or};
 ghost use Rattle.rules.specs.Words.{faulty};
 
 // Whether a node is in a mask; in the fault word that is whether it is faulty.
+#[tactic(auto, unfolding(rules::specs::Words::faulty))]
 pub fn in_mask(mask: u16, node: u8) -> bool
     requires { node < 16 }
     ensures { result ≡ faulty mask node }
