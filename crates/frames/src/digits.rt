@@ -64,6 +64,7 @@ fn byte_of(high: u8, low: u8) -> u8
 }
 
 // 20: a line of no digits, of an odd number or of more than 18, or with a byte that is none.
+#[tactic(auto, using(crate::proofs::FrameRows::count_told))]
 pub fn no_frame(held: [u8; 19], count: usize) -> bool
     ensures { result ≡ no_frame (take count held) }
 {
