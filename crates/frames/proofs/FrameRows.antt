@@ -37,6 +37,11 @@ module _ (held : List ℕ) (count : ℕ) (whole : length held ≡ 19) where
       let l : 18 < length (take count held) = rw length-take (omega arith) in
       rw (lt-ltb 18 (length (take count held)) l, or-true)
 
+  -- nor do none
+  pub none-held : count ≡ 0 → true ≡ no_frame (take count held)
+  unfolding no_frame
+  none-held e = rw e
+
   -- nor does an odd number
   pub odd-held : count ≤ 18 → count % 2 ≢ 0 → true ≡ no_frame (take count held)
   unfolding no_frame
@@ -62,6 +67,9 @@ module _ (held : List ℕ) (count : ℕ) (whole : length held ≡ 19) where
         even = rw (held-short most) at (eqb-true (length line % 2) 0 (not-false (eqb (length line % 2) 0) even));
         digits = not-false (all is_digit line) (or_right (eqb (length line) 0 || odd || ltb 18 (length line)) (not (all is_digit line)) e);
       }
+
+-- what the tests of a line's count say of it
+pub ruleset count_told = (none-held, too-many-held, odd-held, digits-held)
 
 -- ---- the frame, a byte at a time
 

@@ -10,7 +10,7 @@ use Rattle.frames.proofs.digits.no_frame.Reads as no-frame
 use Rattle.frames.proofs.digits.no_frame.Kinds as no-frame-kinds
 use Rattle.frames.proofs.digits.frame_of.Reads as frame-of
 use Rattle.frames.proofs.digits.frame_of.Kinds as frame-of-kinds
-use Rattle.frames.proofs.fields.size_of.Reads as type_size
+use Rattle.frames.proofs.fields.size_of.Reads as size-of
 use Rattle.frames.proofs.fields.size_of.Kinds as size-of-kinds
 use Rattle.frames.proofs.fields.settings_in.Reads as settings-in
 use Rattle.frames.proofs.fields.settings_in.Kinds as settings-in-kinds
@@ -36,7 +36,7 @@ one-no-frame κs a x y s t p q = p ∙ sym q
 pub one-frame-of : OneResult 0 frame-of-kinds.ps frame-of-kinds.r frame-of.Post
 one-frame-of κs a x y s t p q = p ∙ sym q
 
-pub one-size-of : OneResult 0 size-of-kinds.ps size-of-kinds.r type_size.Post
+pub one-size-of : OneResult 0 size-of-kinds.ps size-of-kinds.r size-of.Post
 one-size-of κs a x y s t p q = p ∙ sym q
 
 pub one-settings-in : OneResult 0 settings-in-kinds.ps settings-in-kinds.r settings-in.Post

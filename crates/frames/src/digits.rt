@@ -6,6 +6,7 @@ ghost use Rattle.scenario.specs.Reasons.{no_frame};
 ghost use Rattle.frames.specs.Rows.{frame_row};
 
 // 0-9 or A-F.
+#[tactic(auto, unfolding(scenario::specs::Hex::is_digit))]
 fn is_digit(byte: u8) -> bool
     ensures { result ≡ is_digit byte }
 {
@@ -22,6 +23,7 @@ fn is_digit(byte: u8) -> bool
 }
 
 // What a digit stands for.
+#[tactic(auto, using(crate::proofs::Every::digit_low), unfolding(scenario::specs::Hex::digit_value))]
 fn digit_value(byte: u8) -> u8
     requires { is_digit byte ≡ true }
     ensures { result ≡ digit_value byte }
@@ -30,6 +32,7 @@ fn digit_value(byte: u8) -> u8
 }
 
 // The digit that stands for a number below 16.
+#[tactic(auto, unfolding(scenario::specs::Hex::digit_of))]
 pub fn digit_of(value: u8) -> u8
     requires { value < 16 }
     ensures { result ≡ digit_of value }
@@ -61,6 +64,7 @@ fn byte_of(high: u8, low: u8) -> u8
 }
 
 // 20: a line of no digits, of an odd number or of more than 18, or with a byte that is none.
+#[tactic(auto, using(crate::proofs::FrameRows::count_told))]
 pub fn no_frame(held: [u8; 19], count: usize) -> bool
     ensures { result ≡ no_frame (take count held) }
 {

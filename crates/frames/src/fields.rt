@@ -21,6 +21,7 @@ fn word(high: u8, low: u8) -> u16
 }
 
 // The byte count of a frame's kind.
+#[tactic(auto, unfolding(scenario::specs::Reasons::size_of))]
 pub fn size_of(frame: [u8; 9]) -> usize
     ensures { result ≡ size_of frame }
 {
@@ -34,6 +35,7 @@ pub fn size_of(frame: [u8; 9]) -> usize
 }
 
 // `01`: N, m, u, sender, value, fault word.
+#[tactic(auto, unfolding(scenario::specs::Frames::settings_in))]
 pub fn settings_in(frame: [u8; 9]) -> Settings
     ensures { result ≡ settings_in frame }
 {
@@ -48,6 +50,7 @@ pub fn settings_in(frame: [u8; 9]) -> Settings
 }
 
 // `02`: L and the four places behind it.
+#[tactic(auto, unfolding(scenario::specs::Frames::route_in))]
 pub fn route_in(frame: [u8; 9]) -> Route
     ensures { result ≡ route_in frame }
 {
@@ -58,6 +61,7 @@ pub fn route_in(frame: [u8; 9]) -> Route
 }
 
 // `02`: the word behind the L node numbers.
+#[tactic(auto, unfolding(scenario::specs::Frames::word_told))]
 pub fn word_told(frame: [u8; 9]) -> u16
     requires { byte_in frame 1 ≤ 4 }
     ensures { result ≡ word_told frame }
@@ -69,6 +73,7 @@ pub fn word_told(frame: [u8; 9]) -> u16
 }
 
 // `03`: the number of `02` lines.
+#[tactic(auto, unfolding(scenario::specs::Frames::count_in))]
 pub fn count_in(frame: [u8; 9]) -> u16
     ensures { result ≡ count_in frame }
 {

@@ -1,5 +1,6 @@
 // The small parts of reading and writing scenario files: digits, what a frame holds, and marks.
 #![tactic(auto)]
+
 mod digits; // hexadecimal, and a line's frame
 mod fields; // what the frames of the three kinds hold
 mod marks; // one bit for each cell

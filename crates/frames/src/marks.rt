@@ -3,6 +3,7 @@ ghost use Rattle.std.specs.Prelude.{◌≡◌, ◌<◌, length, replicate};
 ghost use Rattle.scenario.specs.Marks.{marked, mark, bits_of};
 
 // A cell's mark is set. A bit that is not there is not set.
+#[tactic(auto, using(crate::proofs::Bits::no_byte), unfolding(scenario::specs::Marks::marked))]
 pub fn is_marked(marks: &[u8], cell: usize) -> bool
     ensures { result ≡ marked marks.now cell }
 {
@@ -14,6 +15,7 @@ pub fn is_marked(marks: &[u8], cell: usize) -> bool
 }
 
 // Sets a cell's mark; the other bits stay.
+#[tactic(auto, using(crate::proofs::Bits::one_bit), unfolding(scenario::specs::Marks::mark))]
 pub fn set_mark(marks: &mut [u8], cell: usize)
     requires { cell < bits_of marks.old }
     ensures { marks.new ≡ mark marks.old cell }

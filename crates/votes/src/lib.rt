@@ -1,5 +1,6 @@
 // VOTE over a list of words given as bytes: the one vote, for a host and for the exchange. An odd last byte is no entry.
 #![tactic(auto)]
+
 ghost use Rattle.std.specs.Prelude.{◌≡◌, ◌+◌, ◌*◌, ◌<◌, length, drop, eqb, leb};
 ghost use Rattle.rules.specs.Lists.{count};
 ghost use Rattle.rules.specs.Words.{word_at, plain, words_of};

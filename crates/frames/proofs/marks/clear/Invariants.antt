@@ -1,0 +1,10 @@
+-- After i turns the first i bytes are 0 and the others as they came.
+use Rattle.std.proofs.Common.{◌≡◌, ◌-◌, ◌≤◌, ◌++◌, length, drop, replicate}
+use Rattle.frames.proofs.marks.clear.Given as goal
+
+abbrev pub invariant-loop-i : goal.invariant-loop-i
+invariant-loop-i l =
+    (l.i ≤ length l.initial.bytes) × (l.bytes ≡ replicate l.i 0 ++ drop l.i l.initial.bytes)
+
+abbrev pub decreases-loop-i : goal.decreases-loop-i
+decreases-loop-i l = length l.initial.bytes - l.i
