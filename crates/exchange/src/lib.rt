@@ -14,6 +14,7 @@ use rules::{Settings, Summary};
 use settings::narrowed;
 
 // 1 if f ≤ m, 2 if m < f ≤ u, 3 if f > u.
+#[tactic(auto, unfolding(rules::specs::Exchange::class_of))]
 fn class_of(f: u32, m: u32, u: u32) -> u32
     ensures { result ≡ class_of f m u }
 {
