@@ -4,7 +4,6 @@ use mathlib.Core.Bool.{true, false, not, or-true}
 use mathlib.Core.List.{List, [], ◌∷◌, map}
 use Prim.Native.Nat.{ℕ, ◌*◌, ◌≤◌, ◌<◌}
 use native.Mathlib.Omega.{arith}
-use borrow.Author.Rules.{length_unmapped}
 use borrow.Author.Tests.{eq-eqb, ne_eqb, lt-ltb, le-ltb, eqb-true, eqb-false, ltb-false, not-false}
 use mir.Syntax.{w64}
 use mir.Val.{Fits}
@@ -57,10 +56,10 @@ module _ (r : Reader) (table : List ℕ) where
     end-early ne = rw (goes_on, ← is, ne_eqb stage 2 ne)
 
     module _ (closed : stage ≡ 2) where
-      unfinished : length (map (λ (v : ℕ). v) r.held) ≡ 19 → (r.count ≡ 0 → ⊥) → cut_short r (line_held r) ≡ true
+      unfinished : length r.held ≡ 19 → (r.count ≡ 0 → ⊥) → cut_short r (line_held r) ≡ true
       unfolding cut_short
       unfinished whole ne =
-          let some : length (line_held r) ≡ 0 → ⊥ = λ e. ne (omega (arith, e, length-take r.count r.held, length_unmapped ℕ r.held 19 whole)) in
+          let some : length (line_held r) ≡ 0 → ⊥ = λ e. ne (omega (arith, e, length-take r.count r.held, whole)) in
           rw (ne_eqb (length (line_held r)) 0 some, or-true)
 
       complete : r.count ≡ 0 → cut_short r (line_held r) ≡ false
@@ -70,7 +69,7 @@ module _ (r : Reader) (table : List ℕ) where
           rw (← is, closed, empty)
 
       -- 26: or with an unfinished line
-      pub end-unfinished : length (map (λ (v : ℕ). v) r.held) ≡ 19 → (r.count ≡ 0 → ⊥) → 26 ≡ end_refusal r table (line_held r)
+      pub end-unfinished : length r.held ≡ 19 → (r.count ≡ 0 → ⊥) → 26 ≡ end_refusal r table (line_held r)
       unfolding first end_reasons
       end-unfinished whole ne = rw (goes_on, unfinished whole ne)
 

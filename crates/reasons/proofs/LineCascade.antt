@@ -4,7 +4,6 @@ use mathlib.Core.Logic.{inl, inr}
 use mathlib.Core.Bool.{Bool, true, false, not, or-false}
 use mathlib.Core.List.{List, map}
 use Prim.Native.Nat.{ℕ, ◌/◌, ◌≤◌, ◌<◌}
-use borrow.Author.Rules.{length_unmapped}
 use borrow.Author.Tests.{eq-eqb, ne_eqb}
 use lib.ListN.{length, take, get_or}
 use lib.Dec.{eqb}
@@ -98,12 +97,11 @@ module _ (r : Reader) (table marks : List ℕ) (count : ℕ) (is : count ≡ r.c
     pub line-out : o ≡ true → 21 ≡ line_refusal (desk r table marks) (line_held r)
     line-out e = because-21 (desk r table marks) (take count r.held) framed-held (placed-held ∙ e) ∙ line-is
 
-    module _ (inside : o ≡ false) (whole : length (map (λ (v : ℕ). v) r.held) ≡ 19) (size : ℕ) (sized : size ≡ size_of row) where
+    module _ (inside : o ≡ false) (whole : length r.held ≡ 19) (size : ℕ) (sized : size ≡ size_of row) where
       long : length (frame_of (take count r.held)) ≡ count / 2
       long =
-          let All-there = length_unmapped ℕ r.held 19 whole in
-          let few = (framed r.held count All-there framed-held).most in
-          rw (length-frame, held-short r.held count All-there few)
+          let few = (framed r.held count whole framed-held).most in
+          rw (length-frame, held-short r.held count whole few)
 
       size-held : size_of (frame_of (take count r.held)) ≡ size
       size-held = sym (size-row (frame_of (take count r.held))) ∙ rw (← read) (sym sized)

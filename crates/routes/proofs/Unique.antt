@@ -13,7 +13,7 @@ use Rattle.routes.proofs.row.is_route.Reads as is-route
 use Rattle.routes.proofs.row.is_route.Kinds as is-route-kinds
 use Rattle.routes.proofs.numbering.cells_before.Reads as cells-before
 use Rattle.routes.proofs.numbering.cells_before.Kinds as cells-before-kinds
-use Rattle.routes.proofs.numbering.cell_at.Reads as Cell-at
+use Rattle.routes.proofs.numbering.cell_at.Reads as cell-at
 use Rattle.routes.proofs.numbering.cell_at.Kinds as cell-at-kinds
 
 pub one-extended : OneResult 0 extended-kinds.ps extended-kinds.r extended.Post
@@ -34,5 +34,5 @@ one-is-route κs a x y s t p q = p ∙ sym q
 pub one-cells-before : OneResult 0 cells-before-kinds.ps cells-before-kinds.r cells-before.Post
 one-cells-before κs a x y s t p q = p ∙ sym q
 
-pub one-cell-at : OneResult 0 cell-at-kinds.ps cell-at-kinds.r Cell-at.Post
+pub one-cell-at : OneResult 0 cell-at-kinds.ps cell-at-kinds.r cell-at.Post
 one-cell-at κs a x y s t p q = p ∙ sym q
