@@ -2,9 +2,12 @@
 // answer. It judges nothing itself. A read that fails is no end of the input: then nothing is written.
 #![tactic(auto)]
 
+ghost use Rattle.std.specs.Prelude.{◌≡◌, IsNone, IfErr, OnOk, false};
+ghost use Rattle.std.specs.Io.KnownBytes.{IsAtEnd};
 ghost use Rattle.scenario.specs.Reasons.{desk};
 ghost use Rattle.scenario.specs.File.{begun};
-ghost use Rattle.play.specs.Pieces.{Fed};
+ghost use Rattle.play.specs.Pieces.{Fed, FedFrom};
+ghost use Rattle.play.specs.Output.{Answers, Unwritten};
 
 use scenario::Reader;
 use std::io;
@@ -18,9 +21,22 @@ struct Turn {
     failure: Option<io::Error>,
 }
 
+// Why the answer was not written, or not to its end.
+#[derive(Debug, Drop)]
+enum Failure {
+    Reading(io::Error),
+    Endless,
+    Writing(io::Error),
+}
+
 // Reads once and feeds what came.
 fn read_some<R: Read>(input: &mut R, reader: Reader, table: &mut [u8], marks: &mut [u8]) -> Turn
-    ensures { Fed (desk reader table.old marks.old) (desk result.reader table.new marks.new) }
+    ensures fed { Fed (desk reader table.old marks.old) (desk result.reader table.new marks.new) }
+
+    // What was fed is what the input gave, and it ends only where the input has no more.
+    ensures taken { FedFrom (R.remaining input.old) (R.remaining input.new)
+        (desk reader table.old marks.old) (desk result.reader table.new marks.new) }
+    ensures end { result.more ≡ false → IsNone result.failure → IsAtEnd (R.remaining input.new) }
 {
     let mut buffer = [0u8; 65536];
     match input.read(&mut buffer) {
@@ -47,7 +63,11 @@ fn read_some<R: Read>(input: &mut R, reader: Reader, table: &mut [u8], marks: &m
 
 // Reads to the end of the input. The turns are counted only so that the loop is seen to end.
 fn read_all<R: Read>(input: &mut R, table: &mut [u8], marks: &mut [u8]) -> Turn
-    ensures { Fed (begun table.old marks.old) (desk result.reader table.new marks.new) }
+    ensures fed { Fed (begun table.old marks.old) (desk result.reader table.new marks.new) }
+
+    ensures taken { FedFrom (R.remaining input.old) (R.remaining input.new)
+        (begun table.old marks.old) (desk result.reader table.new marks.new) }
+    ensures end { result.more ≡ false → IsNone result.failure → IsAtEnd (R.remaining input.new) }
 {
     let mut reader = reading::start();
     for _ in 0..u64::MAX {
@@ -64,27 +84,27 @@ fn read_all<R: Read>(input: &mut R, table: &mut [u8], marks: &mut [u8]) -> Turn
     }
 }
 
-// Puts the answer to the whole input into the buffer, and returns how long it is.
-fn answer<R: Read>(input: &mut R, out: &mut [u8; 180]) -> io::Result<usize> {
+// Reads the whole input and writes the answer to it.
+fn play<R: Read, W: Write>(input: &mut R, output: &mut W) -> Result<(), Failure>
+    ensures answer { OnOk result (Answers (R.remaining input.old) (R.remaining input.new)
+        (W.contents output.old) (W.contents output.new)) }
+    ensures unread { IfErr result (λ e. Unwritten e (W.contents output.old) (W.contents output.new)) }
+{
     let mut table = [0u8; 52808];
     let mut marks = [0u8; 3301];
     let end = read_all(input, &mut table, &mut marks);
     if let Some(e) = end.failure {
-        return Err(e);
+        return Err(Failure::Reading(e));
     }
     if end.more {
-        return Err(io::Error::other("the input does not end"));
+        return Err(Failure::Endless);
     }
-    Ok(answering::finish(end.reader, &table, out))
-}
-
-// Writes the answer to the whole input.
-fn play<R: Read, W: Write>(input: &mut R, output: &mut W) -> io::Result<()> {
     let mut out = [0u8; 180];
-    let n = answer(input, &mut out)?;
-    output.write_all(&out[..n])
+    let n = answering::finish(end.reader, &table, &mut out);
+    output.write_all(&out[..n]).map_err(Failure::Writing)?;
+    Ok(())
 }
 
-fn main(rt: HostRuntime) -> io::Result<()> {
+fn main(rt: HostRuntime) -> Result<(), Failure> {
     play(&mut rt.stdin(), &mut rt.stdout())
 }
