@@ -2,14 +2,14 @@
 -- file which the pieces make together.
 use mathlib.Core.Path.{◌≡◌, ◌∙◌}
 use mathlib.Core.Bool.{true, false}
-use mathlib.Core.List.{List, flatten}
+use mathlib.Core.List.{List, ◌++◌, append-nil, flatten}
 use Prim.Native.Nat.{ℕ, ◌≤◌}
 use native.Mathlib.Omega.{arith}
 use lib.ListN.{length, take, replicate, length-replicate}
 use lib.Seq.{take-append_seam}
 use lib.Dec.{eqb}
 use borrow.Author.Tests.{le-leb, eqb-true}
-use Rattle.std.specs.Prelude.{Option}
+use Rattle.std.specs.Prelude.{Option, None, Some}
 use Rattle.std.specs.Io.KnownBytes.{IsAtEnd, Appends}
 use Rattle.rules.proofs.Counting.{by-test}
 use Rattle.rules.proofs.Accepted.{settings-accepted}
@@ -63,3 +63,9 @@ pub answered : (left rest before now : Option (List ℕ)) (d : Desk) (n : ℕ) (
     → Appends before now (take n out) → Answers left rest before now
 answered left rest before now d n out from ended long is written =
     record { file = flatten from.all.pieces; taken = from.taken; ended = ended; written = rw (long, is, program-writes d from.all) at written }
+
+-- Of an input that has the bytes of x and an output that holds some: the output then holds these and the answer to x.
+pub known : (x held : List ℕ) (rest now : Option (List ℕ)) → Answers (Some x) rest (Some held) now → now ≡ Some (held ++ output_of x)
+known x held None now a = elim a.taken [ ]
+known x held (Some ys) None a = elim a.written [ ]
+known x held (Some ys) (Some now) a = rw (a.written, a.taken, a.ended, append-nil)
