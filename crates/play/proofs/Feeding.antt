@@ -1,8 +1,9 @@
 -- Pieces fed one after another.
-use mathlib.Core.Path.{◌≡◌, refl, sym, ◌∙◌}
+use mathlib.Core.Path.{◌≡◌, refl, sym, ap, ◌∙◌}
 use mathlib.Core.List.{List, [], ◌∷◌, ◌++◌, append_assoc, append-nil, flatten, foldl-append}
-use Prim.Native.Nat.{ℕ, ◌≤◌}
-use lib.ListN.{length, take}
+use Prim.Native.Nat.{ℕ, ◌+◌, ◌≤◌}
+use native.Mathlib.Omega.{arith}
+use lib.ListN.{length, take, length-append}
 use lib.Seq.{length-take-le}
 use Rattle.std.specs.Prelude.{Option, None, Some}
 use Rattle.std.specs.Io.KnownBytes.{Keeps, Consumes}
@@ -12,7 +13,7 @@ use Rattle.scenario.specs.Feeding.{fed}
 use Rattle.answering.specs.Finish.{length_after}
 use Rattle.scenario.specs.declared.Reader.{Reader}
 use Rattle.answering.proofs.AnswerText.{length-within}
-use Rattle.play.specs.Pieces.{Fed, FedFrom}
+use Rattle.play.specs.Pieces.{Fed, FedFrom, Loses}
 
 -- where nothing came, nothing was fed
 pub fed-none : (d : Desk) → Fed d d
@@ -79,6 +80,28 @@ from_then a b c left mid rest first then =
       all = fed_then a b c first.all then.all;
       taken = rw (flatten-append first.all.pieces then.all.pieces) (taken-then left mid rest _ _ first.taken then.taken);
     }
+
+-- ---- how many bytes that were
+
+pub loses_none : (left : Option (List ℕ)) → Loses left left 0
+loses_none None = tt
+loses_none (Some xs) = omega arith
+
+pub loses_piece : (left rest : Option (List ℕ)) (buffer : List ℕ) (n : ℕ) → Consumes left rest (take n buffer) → n ≡ length (take n buffer) → (n ≡ 0 → ⊥) → Loses left rest 1
+loses_piece None rest buffer n taken long some = tt
+loses_piece (Some xs) None buffer n taken long some = elim taken [ ]
+loses_piece (Some xs) (Some ys) buffer n taken long some = omega (arith, ap length taken, length-append (take n buffer) ys)
+
+pub loses_fewer : (left rest : Option (List ℕ)) (m n : ℕ) → n ≤ m → Loses left rest m → Loses left rest n
+loses_fewer None rest m n fewer lost = tt
+loses_fewer (Some xs) None m n fewer lost = elim lost [ ]
+loses_fewer (Some xs) (Some ys) m n fewer lost = omega arith
+
+pub loses_then : (left mid rest : Option (List ℕ)) (m n : ℕ) → Loses left mid m → Loses mid rest n → Loses left rest (m + n)
+loses_then None mid rest m n first then = tt
+loses_then (Some xs) None rest m n first then = elim first [ ]
+loses_then (Some xs) (Some ys) None m n first then = elim then [ ]
+loses_then (Some xs) (Some ys) (Some zs) m n first then = omega arith
 
 -- the answer stands within the buffer, which keeps its length
 module _ (out text out' : List ℕ) (n : ℕ) (is : n ≡ length_after out text) (same : length out' ≡ length out) where

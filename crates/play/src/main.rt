@@ -2,11 +2,11 @@
 // answer. It judges nothing itself. A read that fails is no end of the input: then nothing is written.
 #![tactic(auto)]
 
-ghost use Rattle.std.specs.Prelude.{◌≡◌, IsNone, IfErr, OnOk, false};
+ghost use Rattle.std.specs.Prelude.{◌≡◌, ◌-◌, ◌^◌, IsNone, IfErr, IsErrOf, OnOk, false, true};
 ghost use Rattle.std.specs.Io.KnownBytes.{IsAtEnd};
 ghost use Rattle.scenario.specs.Reasons.{desk};
 ghost use Rattle.scenario.specs.File.{begun};
-ghost use Rattle.play.specs.Pieces.{Fed, FedFrom};
+ghost use Rattle.play.specs.Pieces.{Fed, FedFrom, Loses};
 ghost use Rattle.play.specs.Output.{Answers, Unwritten};
 
 use scenario::Reader;
@@ -33,10 +33,12 @@ enum Failure {
 fn read_some<R: Read>(input: &mut R, reader: Reader, table: &mut [u8], marks: &mut [u8]) -> Turn
     ensures fed { Fed (desk reader table.old marks.old) (desk result.reader table.new marks.new) }
 
-    // What was fed is what the input gave, and it ends only where the input has no more.
+    // Where it is known which bytes the input has: what was fed is what it gave, its end is where it has none left, and more may
+    // come only after it gave some.
     ensures taken { FedFrom (R.remaining input.old) (R.remaining input.new)
         (desk reader table.old marks.old) (desk result.reader table.new marks.new) }
     ensures end { result.more ≡ false → IsNone result.failure → IsAtEnd (R.remaining input.new) }
+    ensures more { result.more ≡ true → Loses (R.remaining input.old) (R.remaining input.new) 1 }
 {
     let mut buffer = [0u8; 65536];
     match input.read(&mut buffer) {
@@ -65,9 +67,12 @@ fn read_some<R: Read>(input: &mut R, reader: Reader, table: &mut [u8], marks: &m
 fn read_all<R: Read>(input: &mut R, table: &mut [u8], marks: &mut [u8]) -> Turn
     ensures fed { Fed (begun table.old marks.old) (desk result.reader table.new marks.new) }
 
+    // Where it is known which bytes the input has: what was fed is what it gave, its end is where it has none left, and reading
+    // stops before that only where a read fails or after 2^64-1 bytes.
     ensures taken { FedFrom (R.remaining input.old) (R.remaining input.new)
         (begun table.old marks.old) (desk result.reader table.new marks.new) }
     ensures end { result.more ≡ false → IsNone result.failure → IsAtEnd (R.remaining input.new) }
+    ensures more { result.more ≡ true → Loses (R.remaining input.old) (R.remaining input.new) (2 ^ 64 - 1) }
 {
     let mut reader = reading::start();
     for _ in 0..u64::MAX {
@@ -86,9 +91,13 @@ fn read_all<R: Read>(input: &mut R, table: &mut [u8], marks: &mut [u8]) -> Turn
 
 // Reads the whole input and writes the answer to it.
 fn play<R: Read, W: Write>(input: &mut R, output: &mut W) -> Result<(), Failure>
+    // The input was read to its end, and the answer to what it gave is written and nothing else.
     ensures answer { OnOk result (Answers (R.remaining input.old) (R.remaining input.new)
         (W.contents output.old) (W.contents output.new)) }
+
+    // Where it was not read to its end nothing is written; an input of fewer than 2^64-1 bytes always ends.
     ensures unread { IfErr result (λ e. Unwritten e (W.contents output.old) (W.contents output.new)) }
+    ensures endless { IsErrOf result Failure.Endless → Loses (R.remaining input.old) (R.remaining input.new) (2 ^ 64 - 1) }
 {
     let mut table = [0u8; 52808];
     let mut marks = [0u8; 3301];
