@@ -1,6 +1,6 @@
 -- `answering::ending::play`: the exchange on the first 2M bytes.
 use Rattle.settings.proofs.Depths.{settings-deep}
-use Rattle.answering.proofs.Playing.{row-few, row-part, table-part, played-as}
+use Rattle.answering.proofs.Playing.{row-few, row-part, played-as}
 use Rattle.answering.proofs.ending.play.Goals as goal
 
 pub message_count-bytes-requires : goal.message_count-bytes-requires

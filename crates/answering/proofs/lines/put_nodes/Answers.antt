@@ -1,5 +1,5 @@
 -- `answering::lines::put_nodes`: one line more.
-use Rattle.std.proofs.Common.{rules, arith, refl, ◌≡◌, ◌∙◌}
+use Rattle.std.proofs.Common.{arith, refl, ◌∙◌}
 use Rattle.rules.specs.Lists.{up_to}
 use Rattle.scenario.specs.Answer.{text_of}
 use Rattle.answering.specs.Finish.{row_text}

@@ -1,5 +1,4 @@
 -- `reading::feeding::keep`: a full row stays.
-use Rattle.std.proofs.Common.{rules}
 use borrow.Author.Tests.{lt-ltb}
 use Rattle.scenario.specs.Feeding.{keeping}
 use Rattle.reading.proofs.Bytewise.{kept_full}
