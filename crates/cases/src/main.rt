@@ -1,22 +1,9 @@
 // The worked numbers of the paper that are not P1 to P14, and the slips seen before at depths 2 and 3, run through the library.
 // The file stdout holds the answers as they were written down beforehand.
 #![tactic(auto)]
-use libc::STDOUT_FILENO;
+
 use rules::{Route, Settings};
-
-fn say(text: &[u8]) {
-    io::write_all(STDOUT_FILENO, text);
-}
-
-// One more number on a line.
-fn item(x: u32) {
-    say(b" ");
-    io::print_decimal(STDOUT_FILENO, x as u64);
-}
-
-fn end_line() {
-    say(b"\n");
-}
+use std::io;
 
 // Half of the words are 7, a quarter 5, an eighth 6, and an eighth reserved.
 fn picked(x: u32) -> u16 {
@@ -51,13 +38,15 @@ fn all_told(table: &mut [u8], word: u16) {
     }
 }
 
-// The words of a row.
-fn show_row(row: &[u8]) {
+// The words of a row, and the end of the line.
+fn show_row(rt: &impl Print, row: &[u8]) -> io::Result<()> {
     let mut i: usize = 0;
     while i < row.len() / 2 {
-        item(words::word_at(row, i) as u32);
+        let word = words::word_at(row, i);
+        print!(rt; " {word}")?;
         i += 1;
     }
+    println!(rt)
 }
 
 // Sender 0 with value 7.
@@ -73,115 +62,103 @@ fn settings(n: u32, m: u32, u: u32, faults: u16) -> Settings {
 }
 
 // A bound's side: N, m, u and the refusal number.
-fn bound(n: u32, m: u32, u: u32) {
-    say(b"settings");
-    item(n);
-    item(m);
-    item(u);
-    say(b":");
-    item(settings::settings_refusal(settings(n, m, u, 0)));
-    end_line();
+fn bound(rt: &impl Print, n: u32, m: u32, u: u32) -> io::Result<()> {
+    let refusal = settings::settings_refusal(settings(n, m, u, 0));
+    println!(rt; "settings {n} {m} {u}: {refusal}")
 }
 
 // What an exchange returns, and its row.
-fn played(s: Settings, table: &[u8], row: &mut [u8]) {
+fn played(rt: &impl Print, s: Settings, table: &[u8], row: &mut [u8]) -> io::Result<()> {
     let r = exchange::exchange(s, table, row);
-    item(r.refusal);
-    item(r.faults);
-    item(r.fault_class);
-    item(r.ties);
-    item(r.messages);
-    say(b" row");
-    show_row(row);
-    end_line();
+    let refusal = r.refusal;
+    let faults = r.faults;
+    let class = r.fault_class;
+    let ties = r.ties;
+    let messages = r.messages;
+    print!(rt; " {refusal} {faults} {class} {ties} {messages} row")?;
+    show_row(rt, row)
 }
 
 // One table at depth 2: eight nodes, m=2, u=3, nodes 5 to 7 faulty, 259 messages.
-fn depth_two(seed: u32) {
+fn depth_two(rt: &impl Print, seed: u32) -> io::Result<()> {
     let mut table = [0u8; 518];
     fill(&mut table, seed);
-    say(b"m=2 seed");
-    item(seed);
-    say(b":");
+    print!(rt; "m=2 seed {seed}:")?;
     let mut row = [0u8; 16];
-    played(settings(8, 2, 3, 0xE0), &table, &mut row);
+    played(rt, settings(8, 2, 3, 0xE0), &table, &mut row)
 }
 
 // One table at depth 3: eleven nodes, m=3, u=4, nodes 7 to 10 faulty, 5,860 messages.
-fn depth_three(seed: u32) {
+fn depth_three(rt: &impl Print, seed: u32) -> io::Result<()> {
     let mut table = [0u8; 11720];
     fill(&mut table, seed);
-    say(b"m=3 seed");
-    item(seed);
-    say(b":");
+    print!(rt; "m=3 seed {seed}:")?;
     let mut row = [0u8; 22];
-    played(settings(11, 3, 4, 0x780), &table, &mut row);
+    played(rt, settings(11, 3, 4, 0x780), &table, &mut row)
 }
 
 // Every cell tells 9, so each faulty node tells everybody 9. With N=7, m=1, u=4 the vote needs 5 of 6.
-fn five_of_six(faults: u16) {
+fn five_of_six(rt: &impl Print, faults: u16) -> io::Result<()> {
     let mut table = [0u8; 72];
     all_told(&mut table, 9);
-    say(b"5 of 6:");
+    print!(rt; "5 of 6:")?;
     let mut row = [0u8; 14];
-    played(settings(7, 1, 4, faults), &table, &mut row);
+    played(rt, settings(7, 1, 4, faults), &table, &mut row)
 }
 
 // Four nodes: M is 9, and route (3,2) is cell 8.
-fn four_nodes() {
+fn four_nodes(rt: &impl Print) -> io::Result<()> {
     let table = [0u8; 18];
-    say(b"four nodes:");
+    print!(rt; "four nodes:")?;
     let mut row = [0u8; 8];
-    played(settings(4, 1, 1, 0), &table, &mut row);
+    played(rt, settings(4, 1, 1, 0), &table, &mut row)?;
     let nodes = [3u8, 2, 0, 0];
     let found = conversions::cell_of_route(4, 1, 0, Route { nodes, len: 2 });
-    say(b"route (3,2):");
-    item(found.refusal);
-    item(found.cell);
-    end_line();
+    let refusal = found.refusal;
+    let cell = found.cell;
+    println!(rt; "route (3,2): {refusal} {cell}")
 }
 
 // A threshold above the list's length.
-fn high_threshold() {
+fn high_threshold(rt: &impl Print) -> io::Result<()> {
     let list = [0u8, 1, 0, 1, 0, 1];
     let b = votes::cast_vote(4, &list);
-    say(b"threshold 4 of 3:");
-    item(b.refusal);
-    item(b.word as u32);
-    item(b.tie as u32);
-    end_line();
+    let refusal = b.refusal;
+    let word = b.word;
+    let tie = b.tie as u32;
+    println!(rt; "threshold 4 of 3: {refusal} {word} {tie}")
 }
 
-fn bounds() {
-    bound(7, 2, 2);
-    bound(7, 1, 4);
-    bound(7, 2, 3);
-    bound(15, 3, 8);
-    bound(15, 3, 9);
-    bound(16, 0, 1);
-    bound(7, 2, 1);
-    bound(260, 1, 1);
+fn bounds(rt: &impl Print) -> io::Result<()> {
+    bound(rt, 7, 2, 2)?;
+    bound(rt, 7, 1, 4)?;
+    bound(rt, 7, 2, 3)?;
+    bound(rt, 15, 3, 8)?;
+    bound(rt, 15, 3, 9)?;
+    bound(rt, 16, 0, 1)?;
+    bound(rt, 7, 2, 1)?;
+    bound(rt, 260, 1, 1)
 }
 
 // Each of these tables gives another row under each slip: a threshold of more than half; m lowered with each level; the own entry
 // from the table, or its own relay; a cell of a fault-free teller read; a relay that passes on its decision.
-fn slips() {
-    depth_two(2);
-    depth_two(4);
-    depth_two(6);
-    depth_two(7);
-    depth_two(9);
-    depth_three(1);
-    depth_three(4);
-    depth_three(6);
-    depth_three(8);
+fn slips(rt: &impl Print) -> io::Result<()> {
+    depth_two(rt, 2)?;
+    depth_two(rt, 4)?;
+    depth_two(rt, 6)?;
+    depth_two(rt, 7)?;
+    depth_two(rt, 9)?;
+    depth_three(rt, 1)?;
+    depth_three(rt, 4)?;
+    depth_three(rt, 6)?;
+    depth_three(rt, 8)
 }
 
-fn main() {
-    four_nodes();
-    high_threshold();
-    bounds();
-    five_of_six(0x40);
-    five_of_six(0x60);
-    slips();
+fn main(rt: HostRuntime) -> io::Result<()> {
+    four_nodes(&rt)?;
+    high_threshold(&rt)?;
+    bounds(&rt)?;
+    five_of_six(&rt, 0x40)?;
+    five_of_six(&rt, 0x60)?;
+    slips(&rt)
 }

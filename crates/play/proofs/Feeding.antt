@@ -1,15 +1,19 @@
 -- Pieces fed one after another.
-use mathlib.Core.Path.{◌≡◌, refl, sym, ◌∙◌}
-use mathlib.Core.List.{List, [], ◌∷◌, ◌++◌, foldl-append}
-use Prim.Native.Nat.{ℕ, ◌≤◌}
-use lib.ListN.{length, take}
+use mathlib.Core.Path.{◌≡◌, refl, sym, ap, ◌∙◌}
+use mathlib.Core.List.{List, [], ◌∷◌, ◌++◌, append_assoc, append-nil, flatten, foldl-append}
+use Prim.Native.Nat.{ℕ, ◌+◌, ◌≤◌}
+use native.Mathlib.Omega.{arith}
+use lib.ListN.{length, take, length-append}
 use lib.Seq.{length-take-le}
+use Rattle.std.specs.Prelude.{Option, None, Some}
+use Rattle.std.specs.Io.KnownBytes.{Keeps, Consumes}
 use Rattle.scenario.specs.Reasons.{Desk, desk}
+use Rattle.scenario.specs.File.{fresh, begun}
 use Rattle.scenario.specs.Feeding.{fed}
 use Rattle.answering.specs.Finish.{length_after}
 use Rattle.scenario.specs.declared.Reader.{Reader}
 use Rattle.answering.proofs.AnswerText.{length-within}
-use Rattle.play.specs.Pieces.{Fed}
+use Rattle.play.specs.Pieces.{Fed, FedFrom, Loses}
 
 -- where nothing came, nothing was fed
 pub fed-none : (d : Desk) → Fed d d
@@ -24,6 +28,80 @@ fed-piece d piece x table marks r t m = record { pieces = piece ∷ []; fed = rw
 pub fed_then : (a b c : Desk) → Fed a b → Fed b c → Fed a c
 fed_then a b c first then =
     record { pieces = first.pieces ++ then.pieces; fed = then.fed ∙ rw first.fed (sym (foldl-append fed a first.pieces then.pieces)) }
+
+-- ---- the same, with the bytes that the input has left
+
+-- an input that stayed as it was gave nothing
+kept-none : (left rest : Option (List ℕ)) → Keeps left rest → Consumes left rest []
+kept-none None rest k = tt
+kept-none (Some xs) None k = elim k [ ]
+kept-none (Some xs) (Some ys) k = sym k
+
+keeps-same : (left : Option (List ℕ)) → Keeps left left
+keeps-same None = tt
+keeps-same (Some xs) = refl
+
+pub from_kept : (d : Desk) (left rest : Option (List ℕ)) → Keeps left rest → FedFrom left rest d d
+unfolding flatten fed-none
+from_kept d left rest k = record { all = fed-none d; taken = kept-none left rest k }
+
+-- where reading begins, nothing came
+pub from_start : (x : Reader) (table marks : List ℕ) (left : Option (List ℕ)) → x ≡ fresh → FedFrom left left (begun table marks) (desk x table marks)
+from_start x table marks left e = rw e (from_kept (begun table marks) left left (keeps-same left))
+
+-- nor did one of which no byte was taken
+pub from_none : (d : Desk) (left rest : Option (List ℕ)) (buffer : List ℕ) (n : ℕ) → n ≡ 0 → Consumes left rest (take n buffer) → FedFrom left rest d d
+unfolding flatten fed-none
+from_none d left rest buffer n e taken = record { all = fed-none d; taken = rw e at taken }
+
+-- a piece that the input gave
+pub from_piece : (d : Desk) (piece : List ℕ) (x : Reader) (table marks : List ℕ) (left rest : Option (List ℕ)) → x ≡ (fed d piece).reader → table ≡ (fed d piece).table → marks ≡ (fed d piece).marks
+    → Consumes left rest piece → FedFrom left rest d (desk x table marks)
+unfolding flatten fed-piece
+from_piece d piece x table marks left rest r t m taken =
+    record { all = fed-piece d piece x table marks r t m; taken = rw append-nil taken }
+
+flatten-append : (xs ys : List (List ℕ)) → flatten (xs ++ ys) ≡ flatten xs ++ flatten ys
+unfolding flatten
+flatten-append [] ys = refl
+flatten-append (x ∷ xs) ys = rw (flatten-append xs ys, append_assoc)
+
+-- what is taken after what was taken before
+taken-then : (left mid rest : Option (List ℕ)) (xs ys : List ℕ) → Consumes left mid xs → Consumes mid rest ys → Consumes left rest (xs ++ ys)
+taken-then None mid rest xs ys first then = tt
+taken-then (Some a) None rest xs ys first then = elim first [ ]
+taken-then (Some a) (Some b) None xs ys first then = elim then [ ]
+taken-then (Some a) (Some b) (Some c) xs ys first then = first ∙ rw (then, append_assoc)
+
+pub from_then : (a b c : Desk) (left mid rest : Option (List ℕ)) → FedFrom left mid a b → FedFrom mid rest b c → FedFrom left rest a c
+unfolding fed_then
+from_then a b c left mid rest first then =
+    record {
+      all = fed_then a b c first.all then.all;
+      taken = rw (flatten-append first.all.pieces then.all.pieces) (taken-then left mid rest _ _ first.taken then.taken);
+    }
+
+-- ---- how many bytes that were
+
+pub loses_none : (left : Option (List ℕ)) → Loses left left 0
+loses_none None = tt
+loses_none (Some xs) = omega arith
+
+pub loses_piece : (left rest : Option (List ℕ)) (buffer : List ℕ) (n : ℕ) → Consumes left rest (take n buffer) → n ≡ length (take n buffer) → (n ≡ 0 → ⊥) → Loses left rest 1
+loses_piece None rest buffer n taken long some = tt
+loses_piece (Some xs) None buffer n taken long some = elim taken [ ]
+loses_piece (Some xs) (Some ys) buffer n taken long some = omega (arith, ap length taken, length-append (take n buffer) ys)
+
+pub loses_fewer : (left rest : Option (List ℕ)) (m n : ℕ) → n ≤ m → Loses left rest m → Loses left rest n
+loses_fewer None rest m n fewer lost = tt
+loses_fewer (Some xs) None m n fewer lost = elim lost [ ]
+loses_fewer (Some xs) (Some ys) m n fewer lost = omega arith
+
+pub loses_then : (left mid rest : Option (List ℕ)) (m n : ℕ) → Loses left mid m → Loses mid rest n → Loses left rest (m + n)
+loses_then None mid rest m n first then = tt
+loses_then (Some xs) None rest m n first then = elim first [ ]
+loses_then (Some xs) (Some ys) None m n first then = elim then [ ]
+loses_then (Some xs) (Some ys) (Some zs) m n first then = omega arith
 
 -- the answer stands within the buffer, which keeps its length
 module _ (out text out' : List ℕ) (n : ℕ) (is : n ≡ length_after out text) (same : length out' ≡ length out) where

@@ -1,0 +1,19 @@
+-- What the program writes, said of any input and any output: of each the bytes that it has left or holds, where those are known.
+use Rattle.std.specs.Prelude.{List, ℕ, Option}
+use Rattle.std.specs.Io.KnownBytes.{Consumes, IsAtEnd, Keeps, Appends}
+use Rattle.scenario.specs.Answer.{output_of}
+use Rattle.play.specs.declared.Failure.{Failure}
+use Rattle.play.specs.declared.Failure.TheVariants.{Reading, Endless, Writing}
+
+-- a file was read from the input to its end, and its answer written and nothing else
+pub record Answers (left rest before now : Option (List ℕ)) : Type 0 where
+  pub file : List ℕ
+  pub taken : Consumes left rest file
+  pub ended : IsAtEnd rest
+  pub written : Appends before now (output_of file)
+
+-- where the input was not read to its end, nothing is written
+abbrev pub Unwritten : Failure → Option (List ℕ) → Option (List ℕ) → Type 0
+Unwritten (Reading e) before now = Keeps before now
+Unwritten Endless before now = Keeps before now
+Unwritten (Writing e) before now = Unit {0}
