@@ -1,6 +1,7 @@
 // What the package's C host is offered, on numbers and byte slices. Each function hands on what it got and judges nothing; its
 // contract is that of the function it calls, restated whole. The crate host_c exports each to C under the same name.
 #![tactic(auto)]
+
 ghost use Rattle.std.specs.Prelude.{◌≡◌, [], ◌∷◌, length};
 ghost use Rattle.rules.specs.Words.{settings};
 ghost use Rattle.rules.specs.Exchange.{summary_of, row_after};
