@@ -1,5 +1,6 @@
 // What a host asks of routes: the cell of a route, the route of a cell, and one round's part of a table, of numbers as they came.
 #![tactic(auto)]
+
 mod asked; // what a host asks
 mod finding; // the route of a cell
 mod refusals; // why what a host asks is turned away

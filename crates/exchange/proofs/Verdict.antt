@@ -14,7 +14,6 @@ use Rattle.rules.specs.Words.{words_of}
 use Rattle.rules.specs.Routes.{held, receivers}
 use Rattle.rules.specs.Vote.{vote}
 use Rattle.rules.specs.Decision.{nodes_at, threshold, byz, entries}
-use Rattle.rules.proofs.Receivers.{size}
 use Rattle.rules.proofs.Rows.{length_back}
 use Rattle.rules.proofs.Clauses.{byz-votes, byz-ties}
 use Rattle.rules.proofs.Ordinary.{byz-ordinary, entries-ordinary}

@@ -1,6 +1,7 @@
 // One exchange of BYZ(m,m): it judges what it is given, decides for every fault-free receiver, writes the decision row and sums
 // up. Routes, settings, votes and words come from the crates below.
 #![tactic(auto)]
+
 ghost use Rattle.std.specs.Prelude.{◌≡◌, length};
 ghost use Rattle.rules.specs.Exchange.{summary_of, row_after, class_of};
 

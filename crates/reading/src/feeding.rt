@@ -10,6 +10,7 @@ use scenario::Reader;
 use words::wide;
 
 // The reader before the first byte.
+#[tactic(auto, unfolding(scenario::specs::File::fresh))]
 pub fn start() -> Reader
     ensures { result ≡ fresh }
 {

@@ -13,6 +13,7 @@ use scenario::Reader;
 use words::{put_word, wide};
 
 // One more, in a word.
+#[tactic(auto, unfolding(scenario::specs::Judging::one_more))]
 fn one_more(k: u16) -> u16
     ensures { result ≡ one_more k }
 {
@@ -20,6 +21,7 @@ fn one_more(k: u16) -> u16
 }
 
 // A reader after a line, with nothing held.
+#[tactic(auto, unfolding(scenario::specs::Judging::after))]
 fn after_line(r: Reader, stage: u8, s: Settings, given: u16, refusal: u8) -> Reader
     ensures { result ≡ after r stage s given refusal }
 {

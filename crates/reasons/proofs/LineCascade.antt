@@ -2,7 +2,7 @@
 use mathlib.Core.Path.{◌≡◌, sym, ap, ◌∙◌}
 use mathlib.Core.Logic.{inl, inr}
 use mathlib.Core.Bool.{Bool, true, false, not, or-false}
-use mathlib.Core.List.{List, map}
+use mathlib.Core.List.{List}
 use Prim.Native.Nat.{ℕ, ◌/◌, ◌≤◌, ◌<◌}
 use borrow.Author.Tests.{eq-eqb, ne_eqb}
 use lib.ListN.{length, take, get_or}

@@ -1,5 +1,6 @@
 // Why a line of a scenario file is refused: the numbers in their order, over a reader, a lent table and lent marks that stay as they are.
 #![tactic(auto)]
+
 mod kinds; // what each kind of line must hold
 mod lines; // a whole line
 

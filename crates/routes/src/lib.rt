@@ -1,5 +1,6 @@
 // Routes by value and their numbering.
 #![tactic(auto)]
+
 mod numbering; // the cell of a route
 mod row; // a route as a row of places
 

@@ -31,10 +31,10 @@ pub bit_le : (a b : Bool) → (a ≡ true → b ≡ true) → bit a ≤ bit b
 bit_le true b h = rw (h refl) (omega arith)
 bit_le false b h = omega arith
 
-pub bit_or : (a b c : Bool) → (a ≡ true → b ≡ false → c ≡ true) → bit a ≤ bit b + bit c
-bit_or true true c h = omega arith
-bit_or true false c h = rw (h refl refl) (omega arith)
-bit_or false b c h = omega arith
+pub bit-or : (a b c : Bool) → (a ≡ true → b ≡ false → c ≡ true) → bit a ≤ bit b + bit c
+bit-or true true c h = omega arith
+bit-or true false c h = rw (h refl refl) (omega arith)
+bit-or false b c h = omega arith
 
 -- ---- sums of counts
 

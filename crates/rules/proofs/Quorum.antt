@@ -57,7 +57,7 @@ ByzLevel s table = Level s.n s.sender (poll s) (delivered s table) s.m (faulty s
 -- Lemma 1. Where a round is left, the threshold is above u, and above half of the entries; it is all of them but m.
 pub record Quorum (s : Settings) (i : ℕ) (p : List ℕ) : Type 0 where
   pub above-u : s.u < threshold s (i ∷ p)
-  pub above_half : size s.n s.sender p < threshold s (i ∷ p) + threshold s (i ∷ p)
+  pub above-half : size s.n s.sender p < threshold s (i ∷ p) + threshold s (i ∷ p)
   pub all-but-m : threshold s (i ∷ p) + s.m ≡ size s.n s.sender p
 
 module _ (s : Settings) (given : Assumed s) where
@@ -65,7 +65,7 @@ module _ (s : Settings) (given : Assumed s) where
   unfolding threshold nodes_at
   quorum i p path room =
       let e : size s.n s.sender p + length p + 1 ≡ s.n = level-size s.n s.sender given.sender-below p path in
-      record { above-u = omega (arith, given, e); above_half = omega (arith, given, e); all-but-m = omega (arith, given, e) }
+      record { above-u = omega (arith, given, e); above-half = omega (arith, given, e); all-but-m = omega (arith, given, e) }
 
   -- the vote goes by counts alone
   pub unordered : Unordered s.m (poll s)

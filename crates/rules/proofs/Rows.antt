@@ -45,7 +45,7 @@ back-written (a ∷ p) rest =
     let row : written (a ∷ p) ++ rest ≡ written p ++ (a ∷ rest) = append_assoc (written p) (a ∷ []) rest in
     let number : get_or (written p ++ (a ∷ rest)) (length p) 0 ≡ a = get_or_at (written p) a rest 0 (length p) (length-written p) in
     let long : back (written p ++ (a ∷ rest)) (suc (length p)) ≡ a ∷ p =
-        back-more (written p ++ (a ∷ rest)) p (length p) a number (back-written p (a ∷ rest)) in
+    back-more (written p ++ (a ∷ rest)) p (length p) a number (back-written p (a ∷ rest)) in
     ap (λ w. back w (suc (length p))) row ∙ long
 
 -- a returned route is the route that was found

@@ -11,7 +11,7 @@ use lib.Dec.{eqb}
 use borrow.Author.Tests.{eqb-true, eqb-false, eq-eqb, ne_eqb}
 use Rattle.rules.specs.Lists.{bit, count, up_to}
 use Rattle.rules.specs.Routes.{receiver, receivers}
-use Rattle.rules.proofs.Counting.{by-test, bit_le, bit_or, count-le, count-cover, count-split, count-two-two, count_map, count-keep, complement, once, at-least-one-fewer, and_left, and_right, and_both, bools}
+use Rattle.rules.proofs.Counting.{by-test, bit_le, bit-or, count-le, count-cover, count-split, count-two-two, count_map, count-keep, complement, once, at-least-one-fewer, and_left, and_right, and_both, bools}
 use Rattle.rules.proofs.Receivers.{receiver-below, receiver-self, receiver-other, receiver-next, receiver-tail, size}
 
 -- where a test fails everywhere it counts nothing
@@ -134,7 +134,7 @@ module _ (n sender : ℕ) where
         (count-cover (receiver n sender p) (λ j. receiver n sender p j && faulty j) (λ j. receiver n sender p j && eqb a (e j)) (up_to n) bits)
       where
         bits : (j : ℕ) → bit (receiver n sender p j) ≤ bit (receiver n sender p j && faulty j) + bit (receiver n sender p j && eqb a (e j))
-        bits j = bit_or (receiver n sender p j) (receiver n sender p j && faulty j) (receiver n sender p j && eqb a (e j))
+        bits j = bit-or (receiver n sender p j) (receiver n sender p j && faulty j) (receiver n sender p j && eqb a (e j))
             (λ r ok. and_both r (eq-eqb a (e j) (sym (h j (record { receives = r; sound = rw r at ok })))))
 
     -- none of them is v: at most the faulty count for v

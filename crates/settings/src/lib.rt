@@ -1,6 +1,7 @@
 // Settings judged: what an exchange, a question about routes and a file are all turned away for, accepted settings in bytes, and how
 // many messages they have. Every number is judged at the width at which it came: nothing is cut to a byte, and no sum can wrap, before that.
 #![tactic(auto)]
+
 ghost use Rattle.std.specs.Prelude.{◌≡◌, ◌+◌};
 ghost use Rattle.rules.specs.Cells.{cells};
 ghost use Rattle.rules.specs.Refusals.{first, layout_reasons, settings_refusal};

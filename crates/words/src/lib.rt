@@ -1,5 +1,6 @@
 // Words in rows of bytes: two bytes each, high byte first.
 #![tactic(auto)]
+
 ghost use Rattle.std.specs.Prelude.{◌≡◌, ◌+◌, ◌*◌, ◌/◌, ◌%◌, ◌<◌, length};
 ghost use Rattle.rules.specs.Words.{word_at, plain, put_word};
 

@@ -26,13 +26,13 @@ returns-then-s-used-ne0 c = search Passing.relay-row
 pub sent-requires : goal.sent-requires
 sent-requires c =
     Passing.relay-sent _ _ _ _ _ c.requires _ (elim c.if-r-eq1.branch [
-      then-r-eq1 w ↦ Passing.begins-relay _ _ _ _ _ c.requires _ w.if-r-eq1.true w.first-is
-    | else-r-eq1 w ↦ Passing.begins-first _ _ _ _ _ c.requires _ w.if-r-eq1.false w.first-is
+      | then-r-eq1 w ↦ Passing.begins-relay _ _ _ _ _ c.requires _ w.if-r-eq1.true w.first-is
+      | else-r-eq1 w ↦ Passing.begins-first _ _ _ _ _ c.requires _ w.if-r-eq1.false w.first-is
     ])
 
 pub returns : goal.returns
 returns c =
     Passing.relay-heard _ _ _ _ _ c.requires _ (elim c.if-r-eq1.branch [
-      then-r-eq1 w ↦ Passing.begins-relay _ _ _ _ _ c.requires _ w.if-r-eq1.true w.first-is
-    | else-r-eq1 w ↦ Passing.begins-first _ _ _ _ _ c.requires _ w.if-r-eq1.false w.first-is
+      | then-r-eq1 w ↦ Passing.begins-relay _ _ _ _ _ c.requires _ w.if-r-eq1.true w.first-is
+      | else-r-eq1 w ↦ Passing.begins-first _ _ _ _ _ c.requires _ w.if-r-eq1.false w.first-is
     ]) _ _ _ refl c.if-s-used-ne0.false c.in_mask.ensures c.if-in_mask.false c.sent.ensures

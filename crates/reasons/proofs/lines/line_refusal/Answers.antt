@@ -1,6 +1,6 @@
 -- `reasons::lines::line_refusal`: a frame, its place, its size, and then its kind.
 use Rattle.std.proofs.Common.{rules, ◌≡◌, length}
-use Rattle.reasons.proofs.LineCascade.{line-none, line-out, line-wrong, line-kind, in-place}
+use Rattle.reasons.proofs.LineCascade.{line-none, line-out, line-wrong, line-kind}
 use Rattle.reasons.proofs.lines.line_refusal.Goals as goal
 
 pub returns-then-no_frame : goal.returns-then-no_frame

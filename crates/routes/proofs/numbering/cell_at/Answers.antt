@@ -1,5 +1,5 @@
 -- `routes::numbering::cell_at`: the rounds before a route, and its place in its own.
-use Rattle.std.proofs.Common.{rules, arith}
+use Rattle.std.proofs.Common.{arith}
 use Rattle.rules.proofs.Growth.{cells-most}
 use Rattle.routes.proofs.Digits.{cell-sum, rank-few}
 use Rattle.routes.proofs.numbering.cell_at.Goals as goal

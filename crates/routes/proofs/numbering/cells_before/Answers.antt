@@ -2,7 +2,6 @@
 use Rattle.std.proofs.Common.{arith, ◌≡◌, ◌+◌, ◌-◌, ℕ, zero-add, one-mul}
 use native.Mathlib.Nat.{sub-zero}
 use Rattle.rules.specs.Cells.{cells_before, routes_of}
-use Rattle.routes.proofs.Sizes.{two_fits, three-fits, four-fits, to-two-fits, to-three-fits, to-four-fits}
 use Rattle.routes.proofs.numbering.cells_before.Goals as goal
 
 less : (n k : ℕ) → n - 1 - k ≡ n - (k + 1)

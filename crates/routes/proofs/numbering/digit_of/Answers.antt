@@ -1,5 +1,5 @@
 -- `routes::numbering::digit_of`: number by number, at constant places.
-use Rattle.std.proofs.Common.{rules, arith}
+use Rattle.std.proofs.Common.{arith}
 use Rattle.rules.specs.Routes.{back}
 use Rattle.routes.proofs.Digits.{digit-to}
 use Rattle.routes.proofs.numbering.digit_of.Goals as goal

@@ -1,5 +1,4 @@
 -- `routes::numbering::first_digit`: the sender takes a number below it, or not.
-use Rattle.std.proofs.Common.{rules}
 use Rattle.routes.proofs.Digits.{first-used, first-free}
 use Rattle.routes.proofs.numbering.first_digit.Goals as goal
 

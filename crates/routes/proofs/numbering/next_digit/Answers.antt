@@ -1,5 +1,4 @@
 -- `routes::numbering::next_digit`: one number of the row more.
-use Rattle.std.proofs.Common.{rules}
 use Rattle.routes.proofs.Digits.{one_less, next-used, next-free}
 use Rattle.routes.proofs.numbering.next_digit.Goals as goal
 

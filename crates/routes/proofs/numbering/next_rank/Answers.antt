@@ -1,5 +1,4 @@
 -- `routes::numbering::next_rank`: one number more.
-use Rattle.std.proofs.Common.{rules}
 use Rattle.routes.proofs.Digits.{place-fits, ranked-apart, next_fits, next_place}
 use Rattle.routes.proofs.numbering.next_rank.Goals as goal
 

@@ -1,5 +1,5 @@
 -- `routes::numbering::rank_of`: number by number.
-use Rattle.std.proofs.Common.{rules, refl}
+use Rattle.std.proofs.Common.{refl}
 use Rattle.rules.specs.Routes.{back}
 use Rattle.rules.specs.Cells.{rank}
 use Rattle.routes.proofs.numbering.rank_of.Goals as goal
