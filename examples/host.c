@@ -2,6 +2,7 @@
  * A small host: five nodes, m = 1, u = 2. Node 0 sends 7; nodes 3 and 4 are faulty and tell node 1 that
  * they heard 9, while node 4 tells node 2 the truth.
  *
+ *     include/archive
  *     gcc -I include examples/host.c target/staticlib/libhost.a -o host && ./host
  */
 #include <inttypes.h>

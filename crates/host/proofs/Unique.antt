@@ -1,4 +1,4 @@
--- Any two results that an exported contract allows are equal, and so is the later content of the lent row.
+-- Any two results that a contract of this crate allows are equal, and so is the later content of the lent row.
 use mathlib.Core.Path.{◌≡◌, sym, ◌∙◌}
 use contract.Lifetimes.{Lfts}
 use denote.Triple.Clauses.{AtExit}

@@ -1,6 +1,7 @@
-// What the package's C host calls, on numbers and byte slices. Each function hands on what it got and judges nothing; its contract
-// is that of the function it calls, restated whole. include/tsegumbar.h declares the same functions for C.
+// What the package's C host is offered, on numbers and byte slices. Each function hands on what it got and judges nothing; its
+// contract is that of the function it calls, restated whole. The crate host_c exports each to C under the same name.
 #![tactic(auto)]
+
 ghost use Rattle.std.specs.Prelude.{◌≡◌, [], ◌∷◌, length};
 ghost use Rattle.rules.specs.Words.{settings};
 ghost use Rattle.rules.specs.Exchange.{summary_of, row_after};
@@ -9,8 +10,7 @@ ghost use Rattle.rules.specs.Answers.{ballot_of, cell_found, route_found, part_f
 use rules::{Ballot, CellFound, RoundPart, Route, RouteFound, Settings, Summary};
 
 // One exchange: the decision row is written, or, where the call is refused, keeps its bytes.
-#[unsafe(no_mangle)]
-pub extern "C" fn tsegumbar_exchange(
+pub fn tsegumbar_exchange(
     n: u32,
     m: u32,
     u: u32,
@@ -37,16 +37,14 @@ pub extern "C" fn tsegumbar_exchange(
 }
 
 // The vote alone, over a list of words.
-#[unsafe(no_mangle)]
-pub extern "C" fn tsegumbar_vote(threshold: usize, list: &[u8]) -> Ballot
+pub fn tsegumbar_vote(threshold: usize, list: &[u8]) -> Ballot
     ensures { result ≡ ballot_of threshold list.now }
 {
     votes::cast_vote(threshold, list)
 }
 
 // Route to cell; the route is its four places and its length.
-#[unsafe(no_mangle)]
-pub extern "C" fn tsegumbar_cell_of_route(
+pub fn tsegumbar_cell_of_route(
     n: u32,
     m: u32,
     sender: u32,
@@ -63,16 +61,14 @@ pub extern "C" fn tsegumbar_cell_of_route(
 }
 
 // Cell to route.
-#[unsafe(no_mangle)]
-pub extern "C" fn tsegumbar_route_of_cell(n: u32, m: u32, sender: u32, cell: u32) -> RouteFound
+pub fn tsegumbar_route_of_cell(n: u32, m: u32, sender: u32, cell: u32) -> RouteFound
     ensures { result ≡ route_found n m sender cell }
 {
     conversions::route_of_cell(n, m, sender, cell)
 }
 
 // Where one round's part of a table starts and ends, in bytes.
-#[unsafe(no_mangle)]
-pub extern "C" fn tsegumbar_round_part(n: u32, m: u32, table: &[u8], round: u32) -> RoundPart
+pub fn tsegumbar_round_part(n: u32, m: u32, table: &[u8], round: u32) -> RoundPart
     ensures { result ≡ part_found n m (length table.now) round }
 {
     conversions::round_place(n, m, table.len(), round)
