@@ -1,9 +1,10 @@
 -- What the program writes, said of any input and any output: of each the bytes that it has left or holds, where those are known.
-use Rattle.std.specs.Prelude.{List, ℕ, Option}
+use Rattle.std.specs.Prelude.{List, ℕ, ◌-◌, ◌^◌, ◌⊎◌, Option}
 use Rattle.std.specs.Io.KnownBytes.{Consumes, IsAtEnd, Keeps, Appends}
 use Rattle.scenario.specs.Answer.{output_of}
+use Rattle.play.specs.Pieces.{Loses}
 use Rattle.play.specs.declared.Failure.{Failure}
-use Rattle.play.specs.declared.Failure.TheVariants.{Reading, Endless, Writing}
+use Rattle.play.specs.declared.Failure.TheVariants.{Reading, Writing}
 
 -- a file was read from the input to its end, and its answer written and nothing else
 pub record Answers (left rest before now : Option (List ℕ)) : Type 0 where
@@ -12,8 +13,16 @@ pub record Answers (left rest before now : Option (List ℕ)) : Type 0 where
   pub ended : IsAtEnd rest
   pub written : Appends before now (output_of file)
 
--- where the input was not read to its end, nothing is written
+-- 2^64-1 reads, each of which gave something, did not come to the input's end: nothing is written
+pub record Endless (left rest before now : Option (List ℕ)) : Type 0 where
+  pub lost : Loses left rest (2 ^ 64 - 1)
+  pub kept : Keeps before now
+
+-- what the program did where no read and no write failed
+abbrev pub Played : Option (List ℕ) → Option (List ℕ) → Option (List ℕ) → Option (List ℕ) → Type 0
+Played left rest before now = Answers left rest before now ⊎ Endless left rest before now
+
+-- where a read failed, nothing is written
 abbrev pub Unwritten : Failure → Option (List ℕ) → Option (List ℕ) → Type 0
 Unwritten (Reading e) before now = Keeps before now
-Unwritten Endless before now = Keeps before now
 Unwritten (Writing e) before now = Unit {0}

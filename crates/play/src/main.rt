@@ -2,12 +2,12 @@
 // answer. It judges nothing itself. A read that fails is no end of the input: then nothing is written.
 #![tactic(auto)]
 
-ghost use Rattle.std.specs.Prelude.{◌≡◌, ◌-◌, ◌^◌, IsNone, IfErr, IsErrOf, OnOk, false, true};
+ghost use Rattle.std.specs.Prelude.{◌≡◌, ◌-◌, ◌^◌, IsNone, IfErr, OnOk, false, true};
 ghost use Rattle.std.specs.Io.KnownBytes.{IsAtEnd};
 ghost use Rattle.scenario.specs.Reasons.{desk};
 ghost use Rattle.scenario.specs.File.{begun};
 ghost use Rattle.play.specs.Pieces.{Fed, FedFrom, Loses};
-ghost use Rattle.play.specs.Output.{Answers, Unwritten};
+ghost use Rattle.play.specs.Output.{Played, Unwritten};
 
 use scenario::Reader;
 use std::io;
@@ -25,7 +25,6 @@ struct Turn {
 #[derive(Debug, Drop)]
 enum Failure {
     Reading(io::Error),
-    Endless,
     Writing(io::Error),
 }
 
@@ -91,13 +90,13 @@ fn read_all<R: Read>(input: &mut R, table: &mut [u8], marks: &mut [u8]) -> Turn
 
 // Reads the whole input and writes the answer to it.
 fn play<R: Read, W: Write>(input: &mut R, output: &mut W) -> Result<(), Failure>
-    // The input was read to its end, and the answer to what it gave is written and nothing else.
-    ensures answer { OnOk result (Answers (R.remaining input.old) (R.remaining input.new)
+    // The input was read to its end, and the answer to what it gave is written and nothing else; only where 2^64-1 reads did not
+    // come to an end is nothing written.
+    ensures answer { OnOk result (Played (R.remaining input.old) (R.remaining input.new)
         (W.contents output.old) (W.contents output.new)) }
 
-    // Where it was not read to its end nothing is written; an input of fewer than 2^64-1 bytes always ends.
+    // Where a read failed nothing is written.
     ensures unread { IfErr result (λ e. Unwritten e (W.contents output.old) (W.contents output.new)) }
-    ensures endless { IsErrOf result Failure.Endless → Loses (R.remaining input.old) (R.remaining input.new) (2 ^ 64 - 1) }
 {
     let mut table = [0u8; 52808];
     let mut marks = [0u8; 3301];
@@ -106,7 +105,7 @@ fn play<R: Read, W: Write>(input: &mut R, output: &mut W) -> Result<(), Failure>
         return Err(Failure::Reading(e));
     }
     if end.more {
-        return Err(Failure::Endless);
+        return Ok(());
     }
     let mut out = [0u8; 180];
     let n = answering::finish(end.reader, &table, &mut out);
