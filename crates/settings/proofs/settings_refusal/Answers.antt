@@ -1,4 +1,5 @@
 -- `settings::settings_refusal`: the first refusal that applies, test by test.
+use Rattle.std.proofs.Common.{arith}
 use Rattle.settings.proofs.Refusing
 use Rattle.settings.proofs.settings_refusal.Goals as goal
 
@@ -27,7 +28,7 @@ pub returns-then-s-gt65000 : goal.returns-then-s-gt65000
 returns-then-s-gt65000 c = search Refusing.reserved-value
 
 pub returns-then-s-n-ne0 : goal.returns-then-s-n-ne0
-returns-then-s-n-ne0 c = search Refusing.stray-fault
+returns-then-s-n-ne0 c = grind (arith, Refusing.stray-fault)
 
 pub returns : goal.returns
-returns c = search Refusing.settings-pass
+returns c = grind (arith, Refusing.settings-pass)
