@@ -1,4 +1,5 @@
 pub mod Cases
+pub mod Fields
 pub mod Hexadecimal
 pub mod Cutting
 pub mod Marking
