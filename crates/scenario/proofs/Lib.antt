@@ -2,6 +2,7 @@ pub mod Cases
 pub mod Fields
 pub mod Hexadecimal
 pub mod Cutting
+pub mod Answered
 pub mod Marking
 pub mod Outcomes
 pub mod Pieces
