@@ -17,7 +17,7 @@ use Rattle.scenario.specs.Answer.{line_of, answer_to}
 use Rattle.scenario.proofs.Refusals.{line_small}
 use Rattle.scenario.proofs.Pieces.{all-stopped}
 use Rattle.scenario.proofs.Outcomes.{Outcome, stays, refuses, opens, tells, closes, outcome}
-use Rattle.scenario.proofs.LineTable.{stage-said}
+use Rattle.scenario.proofs.LineTable.{FirstSaid, stage-said, end-number}
 use Rattle.scenario.proofs.FromStart.{Sound, unopened, reading, halted, stage-first, from_start, given-most, one-more}
 use Rattle.scenario.proofs.Answered.{answer-stopped, file-cut}
 
@@ -139,3 +139,13 @@ module _ (table marks : List ℕ) where
       by-test (stopped r)
       (λ (s : stopped r ≡ true). absurd (omega (arith, rw s at e, all_small (begun table marks) (lines_of x) (omega arith))))
       (λ (s : stopped r ≡ false). rw s)
+
+  -- So a file of which no line is refused, but which ends before a complete `03` line or with an unfinished line, is answered `1F`, 26, 0.
+  pub cut-file : (x : List ℕ) → stopped (file_judged table marks x).reader ≡ false → (stage_of (file_judged table marks x).reader ≢ 2) ⊎ (length (rest_of x) ≢ 0)
+      → answer_to table marks x ≡ line_of (0x1f ∷ 26 ∷ 0 ∷ 0 ∷ [])
+  unfolding FirstSaid
+  cut-file x going short =
+      let r = (file_judged table marks x).reader in
+      let none : ¬ (r.refusal ≢ 0) = λ ne. true≢false (sym (rw (ne_eqb r.refusal 0 ne)) ∙ going) in
+      let e : file_refusal table marks x ≡ 26 = (end-number 26 r (file_judged table marks x).table (rest_of x) (λ h. omega arith)).1 (inr (none, inl (refl, short))) in
+      file-cut table marks x going (λ z. omega (arith, z, e)) ∙ ap (λ k. line_of (0x1f ∷ k ∷ 0 ∷ 0 ∷ [])) e
