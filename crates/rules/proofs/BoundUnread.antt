@@ -1,6 +1,6 @@
 -- No decision reads u, nor does what is delivered or what becomes of the nodes: it enters by the judging of the settings and by the
 -- class alone.
-use mathlib.Core.Path.{◌≡◌, refl, sym, ap, ◌∙◌, fun_ext}
+use mathlib.Core.Path.{◌≡◌, refl, ap, fun_ext}
 use mathlib.Core.Bool.{true, false}
 use mathlib.Core.List.{List, [], ◌∷◌, map}
 use Prim.Native.Nat.{ℕ}
