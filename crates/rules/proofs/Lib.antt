@@ -30,3 +30,5 @@ pub mod Conditions
 pub mod Agreement
 pub mod Examples
 pub mod Results
+pub mod Untied
+pub mod BoundUnread

@@ -1,5 +1,5 @@
--- What a line does to the lent table and marks, and what it leaves alone.
-use mathlib.Core.Path.{◌≡◌, sym, ◌∙◌}
+-- What a line does to the reader and to the lent table and marks, and what it leaves alone.
+use mathlib.Core.Path.{◌≡◌, refl, sym, ◌∙◌}
 use mathlib.Core.Logic.{◌≢◌}
 use mathlib.Core.Bool.{true, true≢false}
 use mathlib.Core.List.{List}
@@ -9,15 +9,62 @@ use lib.ListN.{length, get_or, set, replicate}
 use lib.Seq.{get_or-set_other}
 use borrow.Author.Tests.{eqb-false, eq-eqb, ne_eqb}
 use Rattle.rules.specs.Words.{word_at, put_word}
+use Rattle.rules.specs.declared.Settings.{Settings}
 use Rattle.rules.proofs.WordRows.{put-here}
 use Rattle.scenario.specs.Hex.{frame_of}
-use Rattle.scenario.specs.Frames.{kind_of, word_told}
+use Rattle.scenario.specs.Frames.{kind_of, settings_in, word_told}
 use Rattle.scenario.specs.Marks.{marked}
 use Rattle.scenario.specs.Reasons.{Desk, cell_in, line_refusal}
-use Rattle.scenario.specs.Judging.{opened, told, closed, refused_with, accepted, settled, judged}
+use Rattle.scenario.specs.Judging.{one_more, after, opened, told, closed, refused_with, accepted, settled, judged}
+use Rattle.scenario.specs.declared.Reader.{Reader}
 use Rattle.scenario.proofs.Marking.{mark-same, mark-other}
 use Rattle.scenario.proofs.Outcomes.{Tells, Outcome, stays, refuses, opens, tells, closes, outcome}
 use Rattle.scenario.proofs.WordsGiven.{cell_below}
+
+-- ---- the reader
+
+-- A reader after a line: at a stage, with settings, so many `02` lines and a refusal; one line more was judged, and none is begun.
+pub record Since (old new : Reader) (place : ℕ) (s : Settings) (many number : ℕ) : Type 0 where
+  pub stage : new.stage ≡ place
+  pub settings : new.settings ≡ s
+  pub given : new.given ≡ many
+  pub lines : new.lines ≡ one_more old.lines
+  pub refusal : new.refusal ≡ number
+  pub count : new.count ≡ 0
+
+after-since : (r : Reader) (place : ℕ) (s : Settings) (many number : ℕ) → Since r (after r place s many number) place s many number
+unfolding after
+after-since r place s many number = record { stage = refl; settings = refl; given = refl; lines = refl; refusal = refl; count = refl }
+
+-- a desk whose reader goes on, and a line
+module _ (d : Desk) (line : List ℕ) (going : d.reader.refusal ≡ 0) where
+  -- a refused line leaves its number, and stage, settings and count as they were
+  pub refused-reader : line_refusal d line ≢ 0
+      → Since d.reader (judged d line).reader d.reader.stage d.reader.settings d.reader.given (line_refusal d line)
+  unfolding judged settled refused_with
+  refused-reader ne =
+      rw (eq-eqb d.reader.refusal 0 going, ne_eqb (line_refusal d line) 0 ne)
+      (after-since d.reader d.reader.stage d.reader.settings d.reader.given (line_refusal d line))
+
+  module _ (none : line_refusal d line ≡ 0) where
+    -- an accepted `01` line gives the settings, and no `02` line was met yet
+    pub opened-reader : kind_of (frame_of line) ≡ 1 → Since d.reader (judged d line).reader 1 (settings_in (frame_of line)) 0 0
+    unfolding judged settled accepted opened
+    opened-reader kind = rw (eq-eqb d.reader.refusal 0 going, none, kind) (after-since d.reader 1 (settings_in (frame_of line)) 0 0)
+
+    -- an accepted `02` line is one more
+    pub told-reader : kind_of (frame_of line) ≡ 2
+        → Since d.reader (judged d line).reader 1 d.reader.settings (one_more d.reader.given) 0
+    unfolding judged settled accepted told
+    told-reader kind =
+        rw (eq-eqb d.reader.refusal 0 going, none, kind) (after-since d.reader 1 d.reader.settings (one_more d.reader.given) 0)
+
+    -- an accepted `03` line is the last
+    pub closed-reader : kind_of (frame_of line) ≡ 3 → Since d.reader (judged d line).reader 2 d.reader.settings d.reader.given 0
+    unfolding judged settled accepted closed
+    closed-reader kind = rw (eq-eqb d.reader.refusal 0 going, none, kind) (after-since d.reader 2 d.reader.settings d.reader.given 0)
+
+-- ---- table and marks
 
 -- a desk whose reader goes on, and a line
 module _ (d : Desk) (line : List ℕ) (going : d.reader.refusal ≡ 0) where

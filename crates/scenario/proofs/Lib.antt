@@ -1,6 +1,8 @@
 pub mod Cases
+pub mod Fields
 pub mod Hexadecimal
 pub mod Cutting
+pub mod Answered
 pub mod Marking
 pub mod Outcomes
 pub mod Pieces

@@ -1,21 +1,25 @@
 -- Line numbers and counts in a file that is read from its start: they are exact, and fit a word with room to spare.
-use mathlib.Core.Path.{◌≡◌, sym, ap, ◌∙◌}
+use mathlib.Core.Path.{◌≡◌, refl, sym, ap, ap₂, ◌∙◌}
+use mathlib.Core.Logic.{◌⊎◌, inl, inr, ◌≢◌}
 use mathlib.Core.Bool.{true, false, true≢false}
 use mathlib.Core.List.{List, [], ◌∷◌, ◌++◌, foldl-append}
-use Prim.Native.Nat.{ℕ, ◌+◌, ◌≤◌}
+use Prim.Native.Nat.{ℕ, ◌+◌, ◌/◌, ◌%◌, ◌≤◌}
 use native.Mathlib.Omega.{arith}
 use lib.ListN.{length}
-use Rattle.scenario.specs.Reasons.{Desk, stage_of, stopped}
+use borrow.Author.Tests.{ne_eqb}
+use Rattle.scenario.specs.Reasons.{Desk, stage_of, stopped, line_refusal}
 use Rattle.scenario.specs.Judging.{after, opened, told, closed, refused_with, judged, judged_all}
 use Rattle.rules.specs.Refusals.{first}
 use Rattle.rules.proofs.Counting.{by-test}
-use Rattle.scenario.specs.Lines.{lines_of}
+use Rattle.scenario.specs.Lines.{lines_of, rest_of}
 use Rattle.scenario.specs.File.{fresh, begun, file_judged, end_reasons, refused_line, file_refusal}
+use Rattle.scenario.specs.Answer.{line_of, answer_to}
 use Rattle.scenario.proofs.Refusals.{line_small}
 use Rattle.scenario.proofs.Pieces.{all-stopped}
 use Rattle.scenario.proofs.Outcomes.{Outcome, stays, refuses, opens, tells, closes, outcome}
-use Rattle.scenario.proofs.LineTable.{stage-said}
+use Rattle.scenario.proofs.LineTable.{FirstSaid, stage-said, end-number}
 use Rattle.scenario.proofs.FromStart.{Sound, unopened, reading, halted, stage-first, from_start, given-most, one-more}
+use Rattle.scenario.proofs.Answered.{answer-stopped, file-cut}
 
 module _ (table marks : List ℕ) where
   -- the desk after so many lines
@@ -83,6 +87,33 @@ module _ (table marks : List ℕ) where
       by (tells e t to) = absurd (true≢false (sym stop ∙ rw to))
       by (closes e c to) = absurd (true≢false (sym stop ∙ rw to))
 
+  -- So a file that has it is answered with one line, whatever follows: `1F`, its refusal, its place.
+  module _ (lines more : List (List ℕ)) (line : List ℕ) (going : stopped (desk lines).reader ≡ false) (stop : stopped (judged (desk lines) line).reader ≡ true) where
+    no_more : desk (lines ++ (line ∷ more)) ≡ judged (desk lines) line
+    no_more = foldl-append judged (begun table marks) lines (line ∷ more) ∙ all-stopped (judged (desk lines) line) more stop
+
+    number : (judged (desk lines) line).reader.refusal ≡ line_refusal (desk lines) line
+    unfolding opened told closed refused_with after
+    number = by (outcome (desk lines) line)
+      where
+        by : Outcome (desk lines) line → (judged (desk lines) line).reader.refusal ≡ line_refusal (desk lines) line
+        by (stays e to) = absurd (true≢false (sym e ∙ going))
+        by (refuses e k to) = rw to
+        by (opens e o to) = absurd (true≢false (sym stop ∙ rw to))
+        by (tells e t to) = absurd (true≢false (sym stop ∙ rw to))
+        by (closes e c to) = absurd (true≢false (sym stop ∙ rw to))
+
+    place : (judged (desk lines) line).reader.lines ≡ length lines + 1
+    place = ap (λ d. d.reader.lines) (sym no_more) ∙ refused-line-exact lines more line going stop
+
+    pub refused-file : (x : List ℕ) → lines_of x ≡ lines ++ (line ∷ more)
+        → answer_to table marks x ≡ line_of (0x1f ∷ line_refusal (desk lines) line ∷ (length lines + 1) / 256 ∷ (length lines + 1) % 256 ∷ [])
+    unfolding answer_to file_judged
+    refused-file x cut =
+        rw (cut, no_more)
+        (answer-stopped (judged (desk lines) line).reader (judged (desk lines) line).table (rest_of x) stop
+        ∙ ap₂ (λ k i. line_of (0x1f ∷ k ∷ i / 256 ∷ i % 256 ∷ [])) number place)
+
   -- ---- 26 comes with line 0
 
   -- the number of a refused line is 25 at the most
@@ -108,3 +139,13 @@ module _ (table marks : List ℕ) where
       by-test (stopped r)
       (λ (s : stopped r ≡ true). absurd (omega (arith, rw s at e, all_small (begun table marks) (lines_of x) (omega arith))))
       (λ (s : stopped r ≡ false). rw s)
+
+  -- So a file of which no line is refused, but which ends before a complete `03` line or with an unfinished line, is answered `1F`, 26, 0.
+  pub cut-file : (x : List ℕ) → stopped (file_judged table marks x).reader ≡ false → (stage_of (file_judged table marks x).reader ≢ 2) ⊎ (length (rest_of x) ≢ 0)
+      → answer_to table marks x ≡ line_of (0x1f ∷ 26 ∷ 0 ∷ 0 ∷ [])
+  unfolding FirstSaid
+  cut-file x going short =
+      let r = (file_judged table marks x).reader in
+      let none : ¬ (r.refusal ≢ 0) = λ ne. true≢false (sym (rw (ne_eqb r.refusal 0 ne)) ∙ going) in
+      let e : file_refusal table marks x ≡ 26 = (end-number 26 r (file_judged table marks x).table (rest_of x) (λ h. omega arith)).1 (inr (none, inl (refl, short))) in
+      file-cut table marks x going (λ z. omega (arith, z, e)) ∙ ap (λ k. line_of (0x1f ∷ k ∷ 0 ∷ 0 ∷ [])) e
