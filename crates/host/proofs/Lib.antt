@@ -1,1 +1,4 @@
 pub mod Unique
+pub mod Calls
+pub mod Demands
+pub mod Asked
