@@ -44,11 +44,11 @@ first-bytes : (out text : List ℕ) → length text ≤ length out → take (len
 unfolding length_after out_after holds
 first-bytes out text room = rw (le-leb (length text) (length out) room) (take-append_seam text _)
 
--- what `main` lends to `finish`
+-- what `play` lends to `finish`
 abbrev pub buffer : List ℕ
 buffer = replicate 180 0
 
--- What `main` hands on to be written, after whatever `read_all` fed, is the answer to all that came.
+-- What `play` hands on to be written, after whatever `read_all` fed, is the answer to all that came.
 pub program-writes : (d : Desk) (f : Fed (begun (replicate 52808 0) (replicate 3301 0)) d)
     → take (length_after buffer (finished d.reader d.table)) (out_after buffer (finished d.reader d.table)) ≡ output_of (flatten f.pieces)
 unfolding output_of

@@ -90,8 +90,8 @@ fn read_all<R: Read>(input: &mut R, table: &mut [u8], marks: &mut [u8]) -> Turn
 
 // Reads the whole input and writes the answer to it.
 fn play<R: Read, W: Write>(input: &mut R, output: &mut W) -> Result<(), Failure>
-    // The input was read to its end, and the answer to what it gave is written and nothing else; only where 2^64-1 reads did not
-    // come to an end is nothing written.
+    // Where the bytes of both are known, as those of standard input and output are not: the input was read to its end, and the answer
+    // to what it gave is written and nothing else; only where 2^64-1 reads did not come to an end is nothing written.
     ensures answer { OnOk result (Played (R.remaining input.old) (R.remaining input.new)
         (W.contents output.old) (W.contents output.new)) }
 

@@ -10,22 +10,22 @@ pub returns-then-n-gt15 : goal.returns-then-n-gt15
 returns-then-n-gt15 c = search Refusing.many-nodes
 
 pub returns-then-m-eq0 : goal.returns-then-m-eq0
-returns-then-m-eq0 c = search Refusing.no-rounds
+returns-then-m-eq0 c = grind (arith, Refusing.no-rounds)
 
 pub returns-then-m-gt3 : goal.returns-then-m-gt3
-returns-then-m-gt3 c = search Refusing.many-rounds
+returns-then-m-gt3 c = grind (arith, Refusing.many-rounds)
 
 pub returns-then-u-m : goal.returns-then-u-m
-returns-then-u-m c = search Refusing.low-bound
+returns-then-u-m c = grind (arith, Refusing.low-bound)
 
 pub returns-then-n-m : goal.returns-then-n-m
-returns-then-n-m c = search Refusing.too-few
+returns-then-n-m c = grind (arith, Refusing.too-few)
 
 pub returns-then-n-s : goal.returns-then-n-s
-returns-then-n-s c = search Refusing.no-sender
+returns-then-n-s c = grind (arith, Refusing.no-sender)
 
 pub returns-then-s-gt65000 : goal.returns-then-s-gt65000
-returns-then-s-gt65000 c = search Refusing.reserved-value
+returns-then-s-gt65000 c = grind (arith, Refusing.reserved-value)
 
 pub returns-then-s-n-ne0 : goal.returns-then-s-n-ne0
 returns-then-s-n-ne0 c = grind (arith, Refusing.stray-fault)
