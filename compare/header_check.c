@@ -20,6 +20,7 @@ int main(void)
 {
     /* The sample: receivers 1 and 2 decide 0 and 7. Cells 10, 13, 14 are routes (3,1), (4,1), (4,2). */
     static const uint8_t decided[10] = {0, 7, 0, 0, 0, 7, 255, 255, 255, 255};
+    static const uint8_t largest[2 * TSEGUMBAR_CELLS_MAX] = {0}; /* a table at N=15, m=3 */
     uint8_t table[32] = {0};
     uint8_t row[10] = {0};
     table[2 * 10 + 1] = 9;
@@ -29,7 +30,14 @@ int main(void)
     check(s.refusal == TSEGUMBAR_ACCEPTED && s.faults == 2 && s.fault_class == 2 && s.ties == 0 &&
               s.messages == 16, "the summary of the sample");
     check(memcmp(row, decided, sizeof row) == 0, "the row of the sample");
+    check(tsegumbar_get_word(row, 2) == 7 && tsegumbar_get_word(row, 3) == TSEGUMBAR_NOT_REPORTED,
+          "the words of the row");
 
+    /* Four faulty receivers, more than u: f and the class differ. */
+    uint8_t other[10] = {0};
+    s = tsegumbar_exchange(5, 1, 2, 0, 7, 0x1E, table, sizeof table, other, sizeof other);
+    check(s.refusal == TSEGUMBAR_ACCEPTED && s.faults == 4 && s.fault_class == 3 && s.ties == 0 &&
+              s.messages == 16, "the summary of four faulty nodes");
     s = tsegumbar_exchange(260, 1, 2, 0, 7, 0x18, table, sizeof table, row, sizeof row);
     check(s.refusal == TSEGUMBAR_REFUSED_NODES && s.faults == 0 && s.fault_class == 0 && s.ties == 0 &&
               s.messages == 0, "260 nodes");
@@ -52,6 +60,16 @@ int main(void)
     check(tsegumbar_exchange(5, 1, 2, 0, 7, 0, table, 32, row, 9).refusal == TSEGUMBAR_REFUSED_ROW,
           "a short row");
 
+    /* The helpers: every word comes back, its high byte stands first, and no byte beside it changes. */
+    uint8_t three[6] = {1, 1, 1, 1, 1, 1};
+    int kept = 1;
+    for (unsigned word = 0; word <= 65535; word++) {
+        tsegumbar_set_word(three, 1, (uint16_t)word);
+        kept = kept && tsegumbar_get_word(three, 1) == word && three[2] == word / 256 &&
+               three[3] == word % 256 && three[0] == 1 && three[1] == 1 && three[4] == 1 && three[5] == 1;
+    }
+    check(kept, "a word put into a place and read from it");
+
     static const uint8_t p7[8] = {0, 1, 0, 2, 0, 2, 0, 3};
     static const uint8_t p9[8] = {0, 1, 0, 2, 0, 2, 0, 1};
     tsegumbar_ballot b = tsegumbar_vote(2, p7, sizeof p7);
@@ -73,11 +91,19 @@ int main(void)
               r.nodes[3] == 0 && r.len == 2, "the route of cell 8");
     r = tsegumbar_route_of_cell(4, 1, 0, 9);
     check(r.refusal == TSEGUMBAR_REFUSED_CELL && r.nodes[0] == 0 && r.len == 0, "cell 9 of 9");
+    r = tsegumbar_route_of_cell(15, 3, 0, TSEGUMBAR_CELLS_MAX - 1);
+    check(r.refusal == TSEGUMBAR_ACCEPTED && r.nodes[0] == 14 && r.nodes[1] == 13 && r.nodes[2] == 12 &&
+              r.nodes[3] == 11 && r.len == 4, "the last route of 15 nodes, m=3");
+    r = tsegumbar_route_of_cell(15, 3, 0, TSEGUMBAR_CELLS_MAX);
+    check(r.refusal == TSEGUMBAR_REFUSED_CELL && r.nodes[0] == 0 && r.len == 0, "a cell beyond the last");
 
     tsegumbar_part p = tsegumbar_round_part(5, 1, table, sizeof table, 1);
     check(p.refusal == TSEGUMBAR_ACCEPTED && p.start == 8 && p.end == 32, "round 1 of 5 nodes");
     p = tsegumbar_round_part(5, 1, table, sizeof table, 2);
     check(p.refusal == TSEGUMBAR_REFUSED_ROUND && p.start == 0 && p.end == 0, "round 2 of m=1");
+    p = tsegumbar_round_part(15, 3, largest, sizeof largest, 3);
+    check(sizeof largest == 52808 && p.refusal == TSEGUMBAR_ACCEPTED && p.start == 4760 &&
+              p.end == sizeof largest, "round 3 of 15 nodes");
 
     return wrong;
 }

@@ -4,7 +4,7 @@
  * N nodes, numbered 0 to N-1, are fully connected. One of them, the sender, tells its value to the
  * others, who relay it in m further rounds and then decide. Given the set of faulty nodes and a table
  * of every message that a faulty node could send, tsegumbar_exchange gives each fault-free node's
- * decision.
+ * decision. Nothing is sent: a call computes what the nodes would decide.
  *
  * Words.  A word is two bytes, the HIGH byte first, on every machine; so are the words of a table, a
  * list and a row. 0 is the default value, 1 to 65,000 are ordinary values, 65,001 to 65,535 are
@@ -21,7 +21,7 @@
  * number of cells:
  *
  *     N, m    4,1    5,1    7,2    10,3     15,3
- *     M         9     16    156    3,609    26,404  (the most there is)
+ *     M         9     16    156    3,609    26,404  (the most there is: TSEGUMBAR_CELLS_MAX)
  *
  * What is lent.  Every pointer is lent for the call alone. Lengths are in bytes. The row of
  * tsegumbar_exchange is written, everything else is only read.
@@ -35,6 +35,16 @@
  * Refusals.  Every answer begins with `refusal`: 0 for an accepted call, else the lowest number of those
  * that apply, as listed at each function. Then every other field of the answer is 0 (a tie is false), and a
  * row keeps its bytes.
+ *
+ * What a call needs.  No function has variables of its own, allocates memory, or calls the C library or
+ * the system: any thread may call at any time, as long as no other one writes what is lent or reads the
+ * row meanwhile. The deepest call, an exchange at N = 15, m = 3, was measured to need 712 bytes of stack
+ * below the caller's stack pointer, with its arguments and return address; a vote needs 88, however long
+ * its list. The time of an exchange is about in proportion to M. A vote goes through its list once or a few
+ * times where the threshold is above half of the words and one value leads; else its time may grow with the
+ * square of the list: 100,000 words of four values, none of which reached a threshold just above a quarter,
+ * took 6.5 seconds on one machine. These figures are measured (bench/run has the stack), not proved, and
+ * another compiler may give others.
  */
 #ifndef TSEGUMBAR_H
 #define TSEGUMBAR_H
@@ -46,6 +56,11 @@
 #ifdef __cplusplus
 extern "C" {
 #endif
+
+#define TSEGUMBAR_VERSION "1.0.0"
+
+/* M at N = 15, m = 3: 2 * TSEGUMBAR_CELLS_MAX bytes hold every table. */
+#define TSEGUMBAR_CELLS_MAX      26404u
 
 #define TSEGUMBAR_ACCEPTED           0u
 #define TSEGUMBAR_REFUSED_NODES      1u  /* N < 4 or N > 15 */
@@ -66,6 +81,20 @@ extern "C" {
 
 /* In a row, the word of a faulty node: not reported. */
 #define TSEGUMBAR_NOT_REPORTED   65535u
+
+/* The word in a place of a table, a list or a row, as it stands. The first place is 0. Nothing is judged:
+   the two bytes must be there. */
+static inline uint16_t tsegumbar_get_word(const uint8_t *bytes, size_t place)
+{
+    return (uint16_t)((unsigned)bytes[2 * place] << 8 | bytes[2 * place + 1]);
+}
+
+/* Puts a word into such a place. */
+static inline void tsegumbar_set_word(uint8_t *bytes, size_t place, uint16_t word)
+{
+    bytes[2 * place] = (uint8_t)(word >> 8);
+    bytes[2 * place + 1] = (uint8_t)(word & 255u);
+}
 
 /* The answer of tsegumbar_exchange. */
 typedef struct tsegumbar_summary {
@@ -113,7 +142,7 @@ tsegumbar_ballot tsegumbar_vote(size_t threshold, const uint8_t *list, size_t li
 /* The answer of tsegumbar_cell_of_route. */
 typedef struct tsegumbar_cell {
     uint32_t refusal;
-    uint32_t cell; /* its word stands at bytes 2*cell (high) and 2*cell+1 (low) of the table */
+    uint32_t cell; /* the place of its word in the table: bytes 2*cell (high) and 2*cell+1 (low) */
 } tsegumbar_cell;
 
 /*
