@@ -38,13 +38,9 @@
  *
  * What a call needs.  No function has variables of its own, allocates memory, or calls the C library or
  * the system: any thread may call at any time, as long as no other one writes what is lent or reads the
- * row meanwhile. The deepest call, an exchange at N = 15, m = 3, was measured to need 712 bytes of stack
- * below the caller's stack pointer, with its arguments and return address; a vote needs 88, however long
- * its list. The time of an exchange is about in proportion to M. A vote goes through its list once or a few
- * times where the threshold is above half of the words and one value leads; else its time may grow with the
- * square of the list: 100,000 words of four values, none of which reached a threshold just above a quarter,
- * took 6.5 seconds on one machine. These figures are measured (bench/run has the stack), not proved, and
- * another compiler may give others.
+ * row meanwhile. The time of an exchange is about in proportion to M. A vote goes through its list once or
+ * a few times where the threshold is above half of the words and one value leads; else its time may grow
+ * with the square of the list.
  */
 #ifndef TSEGUMBAR_H
 #define TSEGUMBAR_H
