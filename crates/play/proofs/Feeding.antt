@@ -7,6 +7,7 @@ use lib.ListN.{length, take, length-append}
 use lib.Seq.{length-take-le}
 use Rattle.std.specs.Prelude.{Option, None, Some}
 use Rattle.std.specs.Io.KnownBytes.{Keeps, Consumes}
+use Rattle.std.proofs.KnownBytes.{Consumes-nil, Consumes-trans, Consumes-kept, Keeps-refl}
 use Rattle.scenario.specs.Reasons.{Desk, desk}
 use Rattle.scenario.specs.File.{fresh, begun}
 use Rattle.scenario.specs.Feeding.{fed}
@@ -32,22 +33,13 @@ fed_then a b c first then =
 -- ---- the same, with the bytes that the input has left
 
 -- an input that stayed as it was gave nothing
-kept-none : (left rest : Option (List ℕ)) → Keeps left rest → Consumes left rest []
-kept-none None rest k = tt
-kept-none (Some xs) None k = elim k [ ]
-kept-none (Some xs) (Some ys) k = sym k
-
-keeps-same : (left : Option (List ℕ)) → Keeps left left
-keeps-same None = tt
-keeps-same (Some xs) = refl
-
 pub from_kept : (d : Desk) (left rest : Option (List ℕ)) → Keeps left rest → FedFrom left rest d d
 unfolding flatten fed-none
-from_kept d left rest k = record { all = fed-none d; taken = kept-none left rest k }
+from_kept d left rest k = record { all = fed-none d; taken = Consumes-kept left left rest [] (Consumes-nil left) k }
 
 -- where reading begins, nothing came
 pub from_start : (x : Reader) (table marks : List ℕ) (left : Option (List ℕ)) → x ≡ fresh → FedFrom left left (begun table marks) (desk x table marks)
-from_start x table marks left e = rw e (from_kept (begun table marks) left left (keeps-same left))
+from_start x table marks left e = rw e (from_kept (begun table marks) left left (Keeps-refl left))
 
 -- nor did one of which no byte was taken
 pub from_none : (d : Desk) (left rest : Option (List ℕ)) (buffer : List ℕ) (n : ℕ) → n ≡ 0 → Consumes left rest (take n buffer) → FedFrom left rest d d
@@ -67,18 +59,12 @@ flatten-append [] ys = refl
 flatten-append (x ∷ xs) ys = rw (flatten-append xs ys, append_assoc)
 
 -- what is taken after what was taken before
-taken-then : (left mid rest : Option (List ℕ)) (xs ys : List ℕ) → Consumes left mid xs → Consumes mid rest ys → Consumes left rest (xs ++ ys)
-taken-then None mid rest xs ys first then = tt
-taken-then (Some a) None rest xs ys first then = elim first [ ]
-taken-then (Some a) (Some b) None xs ys first then = elim then [ ]
-taken-then (Some a) (Some b) (Some c) xs ys first then = first ∙ rw (then, append_assoc)
-
 pub from_then : (a b c : Desk) (left mid rest : Option (List ℕ)) → FedFrom left mid a b → FedFrom mid rest b c → FedFrom left rest a c
 unfolding fed_then
 from_then a b c left mid rest first then =
     record {
       all = fed_then a b c first.all then.all;
-      taken = rw (flatten-append first.all.pieces then.all.pieces) (taken-then left mid rest _ _ first.taken then.taken);
+      taken = rw (flatten-append first.all.pieces then.all.pieces) (Consumes-trans left mid rest _ _ first.taken then.taken);
     }
 
 -- ---- how many bytes that were

@@ -22,7 +22,7 @@ pub record Endless (left rest before now : Option (List ℕ)) : Type 0 where
 abbrev pub Played : Option (List ℕ) → Option (List ℕ) → Option (List ℕ) → Option (List ℕ) → Type 0
 Played left rest before now = Answers left rest before now ⊎ Endless left rest before now
 
--- where a read failed, nothing is written
-abbrev pub Unwritten : Failure → Option (List ℕ) → Option (List ℕ) → Type 0
-Unwritten (Reading e) before now = Keeps before now
-Unwritten (Writing e) before now = Unit {0}
+-- What a failure leaves: where a read failed, nothing is written; a write is tried only once the input was read to its end.
+abbrev pub Failed : Failure → Option (List ℕ) → Option (List ℕ) → Option (List ℕ) → Type 0
+Failed (Reading e) rest before now = Keeps before now
+Failed (Writing e) rest before now = IsAtEnd rest

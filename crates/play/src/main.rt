@@ -7,7 +7,7 @@ ghost use Rattle.std.specs.Io.KnownBytes.{IsAtEnd};
 ghost use Rattle.scenario.specs.Reasons.{desk};
 ghost use Rattle.scenario.specs.File.{begun};
 ghost use Rattle.play.specs.Pieces.{Fed, FedFrom, Loses};
-ghost use Rattle.play.specs.Output.{Played, Unwritten};
+ghost use Rattle.play.specs.Output.{Played, Failed};
 
 use scenario::Reader;
 use std::io;
@@ -95,8 +95,8 @@ fn play<R: Read, W: Write>(input: &mut R, output: &mut W) -> Result<(), Failure>
     ensures answer { OnOk result (Played (R.remaining input.old) (R.remaining input.new)
         (W.contents output.old) (W.contents output.new)) }
 
-    // Where a read failed nothing is written.
-    ensures unread { IfErr result (λ e. Unwritten e (W.contents output.old) (W.contents output.new)) }
+    // Where a read failed nothing is written, and where a write failed the input had come to its end.
+    ensures unread { IfErr result (λ e. Failed e (R.remaining input.new) (W.contents output.old) (W.contents output.new)) }
 {
     let mut table = [0u8; 52808];
     let mut marks = [0u8; 3301];
