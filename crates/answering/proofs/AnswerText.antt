@@ -1,48 +1,40 @@
 -- The answer's text, as the code writes it: line after line from the start of the buffer.
-use mathlib.Core.Path.{◌≡◌, refl, sym, ap, ◌∙◌}
+use mathlib.Core.Path.{◌≡◌, refl, ap, ◌∙◌}
 use mathlib.Core.Bool.{true, false}
 use mathlib.Core.List.{List, [], ◌∷◌, ◌++◌, append_assoc, append-nil}
-use Prim.Native.Nat.{ℕ, zero, suc, ◌+◌, ◌*◌, ◌/◌, ◌%◌, ◌^◌, ◌≤◌, ◌<◌}
-use native.Mathlib.Nat.{zero-add}
+use Prim.Native.Nat.{ℕ, zero, suc, ◌+◌, ◌*◌, ◌/◌, ◌%◌, ◌≤◌, ◌<◌}
 use native.Mathlib.Numerals.{add-one}
 use native.Mathlib.Omega.{arith}
 use borrow.Author.Tests.{eq-eqb, ne_eqb, leb-true, le-leb, lt-leb}
 use lib.Dec.{leb}
-use lib.ListN.{length, get_or, length-append}
-use lib.Seq.{sets, sets-eq}
+use lib.ListN.{length, take, drop, get_or, length-append}
+use lib.Seq.{length-take-le}
 use Rattle.rules.specs.Lists.{up_to}
 use Rattle.rules.specs.Words.{bytes_of, faulty}
 use Rattle.rules.specs.declared.Settings.{Settings}
 use Rattle.rules.specs.declared.Summary.{Summary}
 use Rattle.rules.proofs.Counting.{by-test, map-append}
-use Rattle.scenario.specs.Answer.{role_of, refusal_frame, summary_frame, line_of, text_of}
-use Rattle.answering.specs.Finish.{holds, out_after, length_after, row_frame, row_text}
+use Rattle.scenario.specs.Answer.{word_bytes, role_of, refusal_frame, summary_frame, line_of, text_of}
+use Rattle.answering.specs.Finish.{holds, out_after, length_after, row_frame, row_text, SummaryFits}
 use Rattle.scenario.proofs.Hexadecimal.{length_digits}
-use Rattle.answering.proofs.Writing.{sets-append}
 
 -- ---- a text in a buffer
 
+module _ (out text bytes : List ℕ) (n : ℕ) (is : take n bytes ≡ text) (whole : n ≤ length bytes) where
+  long : length text ≡ n
+  long = rw (← is) (length-take-le n bytes whole)
+
+  -- a text that the buffer cannot hold is not there, and the buffer stays as it was
+  pub no_room : length out < n → (0 ≡ length_after out text) × (out ≡ out_after out text)
+  unfolding length_after out_after holds
+  no_room h = let e = lt-leb (length text) (length out) (omega (arith, long)) in (rw e, rw e)
+
+  -- one that it holds stands in the first bytes
+  pub copied : n ≤ length out → (start : List ℕ) → start ≡ take n bytes → (n ≡ length_after out text) × (start ++ drop n out ≡ out_after out text)
+  unfolding length_after out_after holds
+  copied h start e = let e' = le-leb (length text) (length out) (omega (arith, long)) in (rw (e', long), rw (e', long, e, is))
+
 module _ (out text : List ℕ) where
-  -- a text that the buffer cannot hold has no length in it
-  pub no-room-length : length out < length text → 0 ≡ length_after out text
-  unfolding length_after holds
-  no-room-length h = rw (lt-leb (length text) (length out) h)
-
-  -- and the buffer stays as it was
-  pub no-room-kept : length out < length text → out ≡ out_after out text
-  unfolding out_after holds
-  no-room-kept h = rw (lt-leb (length text) (length out) h)
-
-  -- one that it holds has its own
-  pub written-length : length text ≤ length out → length text ≡ length_after out text
-  unfolding length_after holds
-  written-length h = rw (le-leb (length text) (length out) h)
-
-  -- and stands in the first bytes
-  pub written_out : length text ≤ length out → sets out 0 text ≡ out_after out text
-  unfolding out_after holds
-  written_out h = rw (le-leb (length text) (length out) h, sets-eq text out 0 (omega arith), zero-add)
-
   -- what is returned lies within the buffer
   pub length-within : length_after out text ≤ length out
   unfolding length_after holds
@@ -76,50 +68,41 @@ pub refusal-long : (k line : ℕ) → length (text_of (refusal_frame k line ∷ 
 unfolding refusal_frame bytes_of
 refusal-long k line = ap length (refusal-text k line) ∙ line-long (refusal_frame k line)
 
-module _ (k line : ℕ) (out : List ℕ) where
-  -- a buffer of fewer than nine bytes cannot hold it
-  pub refusal-short : length out < 9 → 0 ≡ length_after out (text_of (refusal_frame k line ∷ []))
-  refusal-short h = no-room-length out _ (rw refusal-long h)
+-- a word as the two bytes that the code makes of it
+bytes_made : (w : ℕ) → w < 65536 → (pair : List ℕ) → pair ≡ (w / 256 % 256 ∷ w % 256 ∷ []) → get_or pair 0 0 ∷ get_or pair 1 0 ∷ [] ≡ word_bytes w
+unfolding bytes_of
+bytes_made w h pair e = let high : w / 256 % 256 ≡ w / 256 = omega arith in rw (e, high)
 
-  -- and stays as it was
-  pub refusal-kept : length out < 9 → out ≡ out_after out (text_of (refusal_frame k line ∷ []))
-  refusal-kept h = no-room-kept out _ (rw refusal-long h)
-
-  module _ (room : 9 ≤ length out) where
-    -- in a longer one nine bytes are the answer
-    pub refusal-length : (r : ℕ) → r ≡ 0 + 2 * 4 + 1 → r ≡ length_after out (text_of (refusal_frame k line ∷ []))
-    refusal-length r e = e ∙ sym (refusal-long k line) ∙ written-length out _ (rw refusal-long room)
-
-    -- which stand in the first places
-    pub refusal-out : (high low : ℕ) → high ≡ line / 256 → low ≡ line % 256
-        → (out' : List ℕ) → out' ≡ sets out 0 (line_of (0x1f ∷ k ∷ high ∷ low ∷ [])) → out' ≡ out_after out (text_of (refusal_frame k line ∷ []))
-    unfolding refusal_frame bytes_of
-    refusal-out high low h l out' e = rw (e, h, l, ← refusal-text k line) (written_out out _ (rw refusal-long room))
+-- the line, with its word as two bytes
+pub refusal_line : (k line : ℕ) → line < 65536 → (pair : List ℕ) → pair ≡ (line / 256 % 256 ∷ line % 256 ∷ [])
+    → (was now : List ℕ) → was ≡ [] → now ≡ was ++ line_of (0x1f ∷ k ∷ get_or pair 0 0 ∷ get_or pair 1 0 ∷ []) → now ≡ text_of (refusal_frame k line ∷ [])
+unfolding refusal_frame
+refusal_line k line h pair e was now none is = rw (is, none, refusal-text, bytes_made line h pair e)
 
 -- ---- the nodes' lines
 
 module _ (s : Settings) (i : ℕ) where
   -- a faulty node's role
-  pub role-faulty : s.faults / 2 ^ i % 2 ≡ 1 → 2 ≡ role_of s i
-  unfolding role_of faulty
-  role-faulty e = rw e
+  pub role_faulty : faulty s.faults i ≡ true → 2 ≡ role_of s i
+  unfolding role_of
+  role_faulty e = rw e
 
   -- a fault-free sender's
-  pub role-sender : (s.faults / 2 ^ i % 2 ≡ 1 → ⊥) → i ≡ s.sender → 0 ≡ role_of s i
-  unfolding role_of faulty
-  role-sender ne e = rw (ne_eqb (s.faults / 2 ^ i % 2) 1 ne, eq-eqb i s.sender e)
+  pub role_sender : faulty s.faults i ≡ false → i ≡ s.sender → 0 ≡ role_of s i
+  unfolding role_of
+  role_sender ne e = rw (ne, eq-eqb i s.sender e)
 
   -- a fault-free receiver's
-  pub role-receiver : (s.faults / 2 ^ i % 2 ≡ 1 → ⊥) → (i ≡ s.sender → ⊥) → 1 ≡ role_of s i
-  unfolding role_of faulty
-  role-receiver ne e = rw (ne_eqb (s.faults / 2 ^ i % 2) 1 ne, ne_eqb i s.sender e)
+  pub role_receiver : faulty s.faults i ≡ false → (i ≡ s.sender → ⊥) → 1 ≡ role_of s i
+  unfolding role_of
+  role_receiver ne e = rw (ne, ne_eqb i s.sender e)
 
 module _ (s : Settings) (row : List ℕ) where
   -- a node's line, with its role written out
-  pub node-line : (i role : ℕ) → role ≡ role_of s i → (out out' : List ℕ) → out' ≡ sets out (11 * i) (line_of (0x11 ∷ i ∷ role ∷ get_or row (2 * i) 0 ∷ get_or row (2 * i + 1) 0 ∷ []))
-      → out' ≡ sets out (11 * i) (line_of (row_frame s row i))
+  pub node_line : (i role n : ℕ) → role ≡ role_of s i → n ≡ role → (was now : List ℕ)
+      → now ≡ was ++ line_of (0x11 ∷ i ∷ n ∷ get_or row (2 * i) 0 ∷ get_or row (2 * i + 1) 0 ∷ []) → now ≡ was ++ line_of (row_frame s row i)
   unfolding row_frame
-  node-line i role is out out' e = rw (e, is)
+  node_line i role n is same was now e = rw (e, same, is)
 
   -- one more node is one more line
   row_more : (i : ℕ) → row_text s row (suc i) ≡ row_text s row i ++ line_of (row_frame s row i)
@@ -134,21 +117,17 @@ module _ (s : Settings) (row : List ℕ) where
       rw (row_more i, length-append, line-long) (omega (arith, row-long i))
 
   -- a turn of the loop: one more node, one more line
-  pub nodes-more : (out₀ out : List ℕ) (i : ℕ) → out ≡ sets out₀ 0 (row_text s row i)
-      → (out' : List ℕ) → out' ≡ sets out (11 * i) (line_of (row_frame s row i)) → out' ≡ sets out₀ 0 (row_text s row (i + 1))
-  nodes-more out₀ out i so_far out' e =
-      let place : 0 + length (row_text s row i) ≡ 11 * i = rw zero-add (row-long i) in
-      rw (e, so_far, ← place, add-one, row_more) (sets-append out₀ 0 (row_text s row i) (line_of (row_frame s row i)))
+  pub nodes_more : (was now : List ℕ) (i : ℕ) → now ≡ was ++ row_text s row i
+      → (now' : List ℕ) → now' ≡ now ++ line_of (row_frame s row i) → now' ≡ was ++ row_text s row (i + 1)
+  nodes_more was now i is now' more = rw (more, is, add-one, row_more, append_assoc)
 
 -- ---- the summary's line
 
-module _ (y : Summary) (at : ℕ) (out : List ℕ) where
-  -- the place behind the summary's line
-  pub summary-end : (r : ℕ) → r ≡ at + 2 * 7 + 1 → r ≡ at + 15
-  summary-end r e = omega arith
-
-  -- the summary's line, with its words as bytes
-  pub summary-line : (a b c d : ℕ) → a ≡ y.ties / 256 → b ≡ y.ties % 256 → c ≡ y.messages / 256 → d ≡ y.messages % 256
-      → (out' : List ℕ) → out' ≡ sets out at (line_of (0x12 ∷ y.faults ∷ y.fault_class ∷ a ∷ b ∷ c ∷ d ∷ [])) → out' ≡ sets out at (line_of (summary_frame y))
-  unfolding summary_frame bytes_of
-  summary-line a b c d ea eb ec ed out' e = rw (e, ea, eb, ec, ed)
+-- with its words as two bytes each
+pub summary_line : (y : Summary) → SummaryFits y → (ties messages : List ℕ) → ties ≡ (y.ties / 256 % 256 ∷ y.ties % 256 ∷ [])
+    → messages ≡ (y.messages / 256 % 256 ∷ y.messages % 256 ∷ []) → (was now : List ℕ)
+    → now ≡ was ++ line_of (0x12 ∷ y.faults ∷ y.fault_class ∷ get_or ties 0 0 ∷ get_or ties 1 0 ∷ get_or messages 0 0 ∷ get_or messages 1 0 ∷ [])
+    → now ≡ was ++ line_of (summary_frame y)
+unfolding summary_frame
+summary_line y fits ties messages t m was now e =
+    rw (e, ← bytes_made y.ties fits.ties ties t, ← bytes_made y.messages fits.messages messages m)

@@ -6,3 +6,4 @@ mod lines; // the lines of nodes and summary
 mod text; // digits and line ends
 
 pub use ending::finish;
+pub use text::LONGEST;

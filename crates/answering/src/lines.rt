@@ -1,68 +1,84 @@
 // The lines of an answer to an accepted file.
-ghost use Rattle.std.specs.Prelude.{◌≡◌, ◌+◌, ◌*◌, ◌<◌, length};
-ghost use Rattle.std.proofs.lemmas.List.Edits.{sets};
+ghost use Rattle.std.specs.Prelude.{◌≡◌, ◌++◌, ◌+◌, ◌*◌, ◌<◌, ◌≤◌, length};
 ghost use Rattle.scenario.specs.Answer.{role_of, summary_frame, line_of};
-ghost use Rattle.answering.specs.Finish.{row_frame, row_text, NodeRoom, NodesRoom, SummaryRoom};
+ghost use Rattle.answering.specs.Finish.{role_number, row_frame, row_text, SummaryFits};
 
-use crate::text::put_line;
+use crate::text::{LONGEST, Text};
+use delivery::Nodes;
 use rules::{Settings, Summary};
-use words::{high_byte, low_byte};
 
-// 00 fault-free sender, 01 fault-free receiver, 02 faulty.
-fn role_of(s: Settings, i: u32) -> u8
+// What a node's line says of the node, by its number there.
+#[derive(Clone, Copy)]
+enum Role {
+    Sender = 0,
+    Receiver = 1,
+    Faulty = 2,
+}
+
+impl Role {
+    fn number(self) -> u8
+        ensures { result ≡ role_number self }
+    {
+        self as u8
+    }
+}
+
+// A node's role: that of a sender or a receiver is to be fault-free.
+#[tactic(auto, using(crate::proofs::AnswerText::role_faulty, crate::proofs::AnswerText::role_sender, crate::proofs::AnswerText::role_receiver))]
+fn role_of(s: Settings, i: u8) -> Role
     requires { i < 16 }
-    ensures { result ≡ role_of s i }
+    ensures { role_number result ≡ role_of s i }
 {
-    if (s.faults >> i) % 2 == 1 {
-        return 2;
+    if Nodes(s.faults).contains(i) {
+        Role::Faulty
+    } else if u32::from(i) == s.sender {
+        Role::Sender
+    } else {
+        Role::Receiver
     }
-    if i == s.sender {
-        return 0;
-    }
-    1
 }
 
 // Writes node i's line, with its word from the decision row.
-fn put_node(s: Settings, row: [u8; 30], i: usize, out: &mut [u8])
-    requires { NodeRoom i (length out.old) }
-    ensures { out.new ≡ sets out.old (11 * i) (line_of (row_frame s row i)) }
+fn put_node(text: &mut Text, s: Settings, row: &[u8], i: u8)
+    requires few { i < 16 }
+    requires word { 2 * i + 1 < length row.now }
+    requires room { length text.old + 11 ≤ LONGEST }
+    ensures { text.new ≡ text.old ++ line_of (row_frame s row.now i) }
 {
-    let at = 2 * i;
-    let role = role_of(s, i as u32);
-    let frame = [0x11u8, i as u8, role, row[at], row[at + 1], 0, 0];
-    put_line(out, 11 * i, frame, 5);
+    let at = 2 * i as usize;
+    let role = role_of(s, i).number();
+    text.put_line(&[0x11, i, role, row[at], row[at + 1]]);
 }
 
 // Writes the lines of all nodes, in ascending order.
-pub fn put_nodes(s: Settings, row: [u8; 30], out: &mut [u8])
-    requires { NodesRoom s.n (length out.old) }
-    ensures { out.new ≡ sets out.old 0 (row_text s row s.n) }
+pub fn put_nodes(text: &mut Text, s: Settings, row: &[u8])
+    requires few { s.n ≤ 15 }
+    requires words { length row.now ≡ 2 * s.n }
+    requires room { length text.old + 11 * s.n ≤ LONGEST }
+    ensures { text.new ≡ text.old ++ row_text s row.now s.n }
 {
-    let n = s.n as usize;
-    let mut i = 0;
-    while i < n {
-        put_node(s, row, i, out);
-        i += 1;
+    for i in 0..s.n as u8 {
+        put_node(text, s, row, i);
     }
 }
 
-// Writes the summary's line, and returns the place behind it.
-pub fn put_summary(y: Summary, out: &mut [u8], at: usize) -> usize
-    requires { SummaryRoom y at (length out.old) }
-    ensures { (result ≡ at + 15) × (out.new ≡ sets out.old at (line_of (summary_frame y))) }
+// Writes the summary's line.
+pub fn put_summary(text: &mut Text, y: Summary)
+    requires fits { SummaryFits y }
+    requires room { length text.old + 15 ≤ LONGEST }
+    ensures { text.new ≡ text.old ++ line_of (summary_frame y) }
 {
-    let ties = y.ties as u16;
-    let messages = y.messages as u16;
     let faults = y.faults as u8;
     let class = y.fault_class as u8;
-    let frame = [
-        0x12u8,
+    let [ties_high, ties_low] = (y.ties as u16).to_be_bytes();
+    let [messages_high, messages_low] = (y.messages as u16).to_be_bytes();
+    text.put_line(&[
+        0x12,
         faults,
         class,
-        high_byte(ties),
-        low_byte(ties),
-        high_byte(messages),
-        low_byte(messages),
-    ];
-    put_line(out, at, frame, 7)
+        ties_high,
+        ties_low,
+        messages_high,
+        messages_low,
+    ]);
 }

@@ -2,51 +2,42 @@
 // The file stdout holds the answers as they were written down beforehand.
 #![tactic(auto)]
 
-use rules::{Route, Settings};
-use std::io;
+use rules::{Refusal, Route, Settings};
+use settings::Judged;
+use std::fmt::Display;
+use std::{fmt, io};
 
-// Half of the words are 7, a quarter 5, an eighth 6, and an eighth reserved.
-fn picked(x: u32) -> u16 {
-    if x < 4 {
-        7
-    } else if x < 6 {
-        5
-    } else if x < 7 {
-        6
-    } else {
-        65535
+// What a call answers, as it is printed: 0 and its numbers, or the number of the refusal.
+#[derive(Drop)]
+struct Answer<const COUNT: usize>(Result<[u32; COUNT], Refusal>);
+
+impl<const COUNT: usize> Display for Answer<COUNT> {
+    fn fmt<W: fmt::Write>(&self, f: &mut fmt::Formatter<W>) -> fmt::Result {
+        match self.0 {
+            Ok(numbers) => {
+                write!(f, "0")?;
+                for number in numbers {
+                    write!(f, " {number}")?;
+                }
+                Ok(())
+            }
+            Err(refusal) => write!(f, "{}", refusal.number()),
+        }
     }
 }
 
-// A word for each cell, by a linear congruence from the seed.
-fn fill(table: &mut [u8], seed: u32) {
-    let mut x = seed % 65536;
-    let mut c: usize = 0;
-    while c < table.len() / 2 {
-        x = (x * 25173 + 13849) % 65536;
-        words::put_word(table, c, picked(x / 256 % 8));
-        c += 1;
-    }
-}
+// The words of a row, as they are printed.
+#[derive(Drop)]
+struct Words<'a>(&'a [u8]);
 
-// The same word in every cell.
-fn all_told(table: &mut [u8], word: u16) {
-    let mut c: usize = 0;
-    while c < table.len() / 2 {
-        words::put_word(table, c, word);
-        c += 1;
+impl<'a> Display for Words<'a> {
+    fn fmt<W: fmt::Write>(&self, f: &mut fmt::Formatter<W>) -> fmt::Result {
+        let (words, _) = self.0.as_chunks::<2>();
+        for word in words {
+            write!(f, " {}", u16::from_be_bytes(*word))?;
+        }
+        Ok(())
     }
-}
-
-// The words of a row, and the end of the line.
-fn show_row(rt: &impl Print, row: &[u8]) -> io::Result<()> {
-    let mut i: usize = 0;
-    while i < row.len() / 2 {
-        let word = words::word_at(row, i);
-        print!(rt; " {word}")?;
-        i += 1;
-    }
-    println!(rt)
 }
 
 // Sender 0 with value 7.
@@ -61,104 +52,139 @@ fn settings(n: u32, m: u32, u: u32, faults: u16) -> Settings {
     }
 }
 
-// A bound's side: N, m, u and the refusal number.
-fn bound(rt: &impl Print, n: u32, m: u32, u: u32) -> io::Result<()> {
-    let refusal = settings::settings_refusal(settings(n, m, u, 0));
-    println!(rt; "settings {n} {m} {u}: {refusal}")
+// A word for each cell of a table, in their order.
+fn fill<F: FnMut() -> u16>(table: &mut [u8], mut next_word: F)
+    requires { F.IsAlwaysCallable next_word }
+{
+    for cell in table.as_chunks_mut::<2>().0 {
+        *cell = next_word().to_be_bytes();
+    }
 }
 
-// What an exchange returns, and its row.
-fn played(rt: &impl Print, s: Settings, table: &[u8], row: &mut [u8]) -> io::Result<()> {
-    let r = exchange::exchange(s, table, row);
-    let refusal = r.refusal;
-    let faults = r.faults;
-    let class = r.fault_class;
-    let ties = r.ties;
-    let messages = r.messages;
-    print!(rt; " {refusal} {faults} {class} {ties} {messages} row")?;
-    show_row(rt, row)
+// An exchange over a table whose cells tell these words in their order, and the row that it leaves.
+fn played<F: FnMut() -> u16>(
+    rt: &impl Print,
+    name: impl Display + Drop,
+    s: Settings,
+    table: &mut [u8],
+    row: &mut [u8],
+    next_word: F,
+) -> io::Result<()>
+    requires { F.IsAlwaysCallable next_word }
+{
+    fill(table, next_word);
+    let summary = exchange::exchange(s, table, row);
+    let answer = Answer(summary.map(|y| [y.faults, y.fault_class, y.ties, y.messages]));
+    println!(rt; "{name}: {answer} row{}", Words(row))
 }
 
-// One table at depth 2: eight nodes, m=2, u=3, nodes 5 to 7 faulty, 259 messages.
-fn depth_two(rt: &impl Print, seed: u32) -> io::Result<()> {
-    let mut table = [0u8; 518];
-    fill(&mut table, seed);
-    print!(rt; "m=2 seed {seed}:")?;
-    let mut row = [0u8; 16];
-    played(rt, settings(8, 2, 3, 0xE0), &table, &mut row)
-}
+// Words by a linear congruence from a seed: half of them are 7, a quarter 5, an eighth 6, and an eighth reserved.
+#[derive(Drop)]
+struct Congruence(u16);
 
-// One table at depth 3: eleven nodes, m=3, u=4, nodes 7 to 10 faulty, 5,860 messages.
-fn depth_three(rt: &impl Print, seed: u32) -> io::Result<()> {
-    let mut table = [0u8; 11720];
-    fill(&mut table, seed);
-    print!(rt; "m=3 seed {seed}:")?;
-    let mut row = [0u8; 22];
-    played(rt, settings(11, 3, 4, 0x780), &table, &mut row)
-}
-
-// Every cell tells 9, so each faulty node tells everybody 9. With N=7, m=1, u=4 the vote needs 5 of 6.
-fn five_of_six(rt: &impl Print, faults: u16) -> io::Result<()> {
-    let mut table = [0u8; 72];
-    all_told(&mut table, 9);
-    print!(rt; "5 of 6:")?;
-    let mut row = [0u8; 14];
-    played(rt, settings(7, 1, 4, faults), &table, &mut row)
+impl Congruence {
+    fn next_word(&mut self) -> u16 {
+        self.0 = self.0.wrapping_mul(25173).wrapping_add(13849);
+        match self.0 / 256 % 8 {
+            0..=3 => 7,
+            4 | 5 => 5,
+            6 => 6,
+            _ => 65535,
+        }
+    }
 }
 
 // Four nodes: M is 9, and route (3,2) is cell 8.
 fn four_nodes(rt: &impl Print) -> io::Result<()> {
-    let table = [0u8; 18];
-    print!(rt; "four nodes:")?;
-    let mut row = [0u8; 8];
-    played(rt, settings(4, 1, 1, 0), &table, &mut row)?;
-    let nodes = [3u8, 2, 0, 0];
-    let found = conversions::cell_of_route(4, 1, 0, Route { nodes, len: 2 });
-    let refusal = found.refusal;
-    let cell = found.cell;
-    println!(rt; "route (3,2): {refusal} {cell}")
+    played(
+        rt,
+        "four nodes",
+        settings(4, 1, 1, 0),
+        &mut [0; 18],
+        &mut [0; 8],
+        || 0,
+    )?;
+    let nodes = [3, 2, 0, 0];
+    let cell = conversions::cell_of_route(4, 1, 0, Route { nodes, len: 2 });
+    println!(rt; "route (3,2): {}", Answer(cell.map(|c| [c])))
 }
 
 // A threshold above the list's length.
 fn high_threshold(rt: &impl Print) -> io::Result<()> {
-    let list = [0u8, 1, 0, 1, 0, 1];
-    let b = votes::cast_vote(4, &list);
-    let refusal = b.refusal;
-    let word = b.word;
-    let tie = b.tie as u32;
-    println!(rt; "threshold 4 of 3: {refusal} {word} {tie}")
+    let outcome = votes::cast_vote(4, &[0, 1, 0, 1, 0, 1]);
+    println!(rt;
+        "threshold 4 of 3: {}",
+        Answer(outcome.map(|v| [u32::from(v.word), u32::from(v.tie)]))
+    )
 }
 
+// N, m and u on each side of a bound.
 fn bounds(rt: &impl Print) -> io::Result<()> {
-    bound(rt, 7, 2, 2)?;
-    bound(rt, 7, 1, 4)?;
-    bound(rt, 7, 2, 3)?;
-    bound(rt, 15, 3, 8)?;
-    bound(rt, 15, 3, 9)?;
-    bound(rt, 16, 0, 1)?;
-    bound(rt, 7, 2, 1)?;
-    bound(rt, 260, 1, 1)
+    let sides = [
+        (7, 2, 2),
+        (7, 1, 4),
+        (7, 2, 3),
+        (15, 3, 8),
+        (15, 3, 9),
+        (16, 0, 1),
+        (7, 2, 1),
+        (260, 1, 1),
+    ];
+    for (n, m, u) in sides {
+        let judged = Judged::try_from(settings(n, m, u, 0));
+        println!(rt; "settings {n} {m} {u}: {}", Answer(judged.map(|_| [])))?;
+    }
+    Ok(())
+}
+
+// Every cell tells 9, so each faulty node tells everybody 9. With N=7, m=1, u=4 the vote needs 5 of 6.
+fn five_of_six(rt: &impl Print) -> io::Result<()> {
+    for faults in [0x40, 0x60] {
+        played(
+            rt,
+            "5 of 6",
+            settings(7, 1, 4, faults),
+            &mut [0; 72],
+            &mut [0; 14],
+            || 9,
+        )?;
+    }
+    Ok(())
 }
 
 // Each of these tables gives another row under each slip: a threshold of more than half; m lowered with each level; the own entry
-// from the table, or its own relay; a cell of a fault-free teller read; a relay that passes on its decision.
+// from the table, or its own relay; a cell of a fault-free teller read; a relay that passes on its decision. At depth 2 there are eight
+// nodes, 5 to 7 of them faulty, and 259 messages; at depth 3 eleven, 7 to 10 faulty, and 5,860.
 fn slips(rt: &impl Print) -> io::Result<()> {
-    depth_two(rt, 2)?;
-    depth_two(rt, 4)?;
-    depth_two(rt, 6)?;
-    depth_two(rt, 7)?;
-    depth_two(rt, 9)?;
-    depth_three(rt, 1)?;
-    depth_three(rt, 4)?;
-    depth_three(rt, 6)?;
-    depth_three(rt, 8)
+    for seed in [2, 4, 6, 7, 9] {
+        let mut words = Congruence(seed);
+        played(
+            rt,
+            format_args!("m=2 seed {seed}"),
+            settings(8, 2, 3, 0xE0),
+            &mut [0; 518],
+            &mut [0; 16],
+            || words.next_word(),
+        )?;
+    }
+    for seed in [1, 4, 6, 8] {
+        let mut words = Congruence(seed);
+        played(
+            rt,
+            format_args!("m=3 seed {seed}"),
+            settings(11, 3, 4, 0x780),
+            &mut [0; 11720],
+            &mut [0; 22],
+            || words.next_word(),
+        )?;
+    }
+    Ok(())
 }
 
 fn main(rt: HostRuntime) -> io::Result<()> {
     four_nodes(&rt)?;
     high_threshold(&rt)?;
     bounds(&rt)?;
-    five_of_six(&rt, 0x40)?;
-    five_of_six(&rt, 0x60)?;
+    five_of_six(&rt)?;
     slips(&rt)
 }

@@ -1,4 +1,4 @@
-pub mod Found
 pub mod Judged
+pub mod Found
 pub mod Answered
 pub mod Unique

@@ -3,7 +3,6 @@
 
 mod asked; // what a host asks
 mod finding; // the route of a cell
-mod refusals; // why what a host asks is turned away
+mod network; // nodes, rounds and a sender, judged
 
 pub use asked::{cell_of_route, round_part, round_place, route_of_cell};
-pub use refusals::round_refusal;

@@ -14,8 +14,7 @@ use Rattle.rules.proofs.Numbering.{is-route}
 use Rattle.rules.proofs.Rows.{length_back}
 use Rattle.rules.specs.declared.Settings.{Settings}
 use Rattle.rules.specs.declared.Route as R
-use Rattle.delivery.specs.Told.{Told}
-use Rattle.routes.specs.Needs.{Short, Numbered}
+use Rattle.delivery.specs.Told.{Given, Told}
 
 -- ---- over a row and a length
 
@@ -49,65 +48,46 @@ module _ (s : Settings) (t row : List ℕ) where
 
 -- ---- over a given route, in the terms that the code has it
 
-module _ (s : Settings) (t : List ℕ) (r : R.Route) (p : Told s t r) where
-  -- it has a teller
-  pub told-short : Short r
-  told-short = record { some = p.some; most = omega (arith, p.short, p.given.judged.three) }
-
-  -- and a cell
-  pub told-numbered : (n sender : ℕ) → s.n ≡ n → s.sender ≡ sender → Numbered n sender r
-  told-numbered n sender en es =
-      rw (← en, ← es)
-      let ok = p.given.judged in
-      record {
-        few = ok.fifteen;
-        sender = ok.sender-below;
-        some = p.some;
-        most = omega (arith, p.short, ok.three);
-        wide = omega (arith, p.short, ok.bound, ok.enough, ok.one);
-        path = p.path;
-      }
-
-  -- which lies in the table
+module _ (s : Settings) (t : List ℕ) (g : Given s t) (r : R.Route) (p : Told s r) where
+  -- its cell lies in the table
   pub told-room : (c : ℕ) → c ≡ cell s.n s.sender (held r) → 2 * c + 1 < length t
   told-room c e =
       let l = length_back r.nodes r.len in
       let route = is-route s.n s.m s.sender (held r) (record { some = omega (arith, p.some); short = omega (arith, p.short); path = p.path }) in
-      omega (arith, e, p.given.room (held r) route)
+      omega (arith, e, g.room (held r) route)
 
   module _ (x : ℕ) (ex : x ≡ teller s.sender (but_last (held r))) where
     pub teller-lt : x < 16
-    teller-lt = omega (arith, ex, teller-node s.n s.sender r.nodes r.len p.given.judged.sender-below p.path, p.given.judged.fifteen)
+    teller-lt = omega (arith, ex, teller-node s.n s.sender r.nodes r.len g.judged.sender-below p.path, g.judged.fifteen)
 
-    module _ (b : Bool) (eb : b ≡ faulty s.faults x) where
-      is : (c : Bool) → b ≡ c → faulty s.faults (teller s.sender (but_last (held r))) ≡ c
-      is c h = sym (ap (faulty s.faults) ex) ∙ sym eb ∙ h
+    is : (b : Bool) → b ≡ faulty s.faults x → faulty s.faults (teller s.sender (but_last (held r))) ≡ b
+    is b e = sym (ap (faulty s.faults) ex) ∙ sym e
 
-      -- a faulty teller tells what the cell holds
-      pub told-cell : (c w : ℕ) → b ≡ true → c ≡ cell s.n s.sender (held r) → w ≡ plain (word_at t c) → w ≡ delivered s t (held r)
-      told-cell c w h ec ew = ew ∙ ap (λ (k : ℕ). plain (word_at t k)) ec ∙ from_cell s t r.nodes r.len p.some (is true h)
+    -- a faulty teller tells what the cell holds
+    pub told-cell : (w : ℕ) → true ≡ faulty s.faults x → w ≡ plain (word_at t (cell s.n s.sender (held r))) → w ≡ delivered s t (held r)
+    told-cell w on ew = ew ∙ from_cell s t r.nodes r.len p.some (is true on)
 
+    module _ (b : Bool) (eb : b ≡ faulty s.faults x) (off : b ≡ false) (e : R.Route) (ee : e ≡ shorter r) where
       -- a fault-free one passes on what it was told
-      pub told-on : (e : R.Route) (w : ℕ) → b ≡ false → e ≡ shorter r → w ≡ delivered s t (held e) → w ≡ delivered s t (held r)
-      told-on e w h ee ew = ew ∙ ap (λ (q : R.Route). delivered s t (held q)) ee ∙ passed_on s t r.nodes r.len p.some (is false h)
+      pub told-on : (w : ℕ) → w ≡ delivered s t (held e) → w ≡ delivered s t (held r)
+      told-on w ew = ew ∙ ap (λ (q : R.Route). delivered s t (held q)) ee ∙ passed_on s t r.nodes r.len p.some (is false (sym off ∙ eb))
 
       -- which is the sender's value where the teller is the sender
-      pub told-value : (e : R.Route) (v : ℕ) → b ≡ false → e ≡ shorter r → e.len ≡ 0 → s.value ≡ v → v ≡ delivered s t (held r)
-      told-value e v h ee el ev = told-on e v h ee (own e.nodes e.len el)
+      pub told-value : (v : ℕ) → e.len ≡ 0 → s.value ≡ v → v ≡ delivered s t (held r)
+      told-value v el ev = sym ev ∙ told-on s.value (own e.nodes e.len el)
         where
-          own : (row : List ℕ) (k : ℕ) → k ≡ 0 → v ≡ delivered s t (back row k)
-          own row k z = rw (z, ← ev) (on_none s t row)
+          own : (row : List ℕ) (k : ℕ) → k ≡ 0 → s.value ≡ delivered s t (back row k)
+          own row k z = rw z (on_none s t row)
 
-  -- the route that the teller was told on
-  module _ (e : R.Route) (ee : e ≡ shorter r) where
-    pub told-shorter : (e.len ≡ 0 → ⊥) → Told s t e
-    told-shorter some =
-        record {
-          given = p.given;
-          some = omega arith;
-          short = omega (arith, ap (λ (q : R.Route). q.len) ee, p.short);
-          path = rw ee (path-shorter s.n s.sender r.nodes r.len p.path);
-        }
+-- the route that the teller was told on
+module _ (s : Settings) (r : R.Route) (p : Told s r) (e : R.Route) (ee : e ≡ shorter r) where
+  pub told-shorter : (e.len ≡ 0 → ⊥) → Told s e
+  told-shorter some =
+      record {
+        some = omega arith;
+        short = omega (arith, ap (λ (q : R.Route). q.len) ee, p.short);
+        path = rw ee (path-shorter s.n s.sender r.nodes r.len p.path);
+      }
 
-    pub told-falls : (long : ℕ) → r.len ≡ long → e.len < long
-    told-falls long el = omega (arith, ap (λ (q : R.Route). q.len) ee, p.some)
+  pub told-falls : (long : ℕ) → r.len ≡ long → e.len < long
+  told-falls long el = omega (arith, ap (λ (q : R.Route). q.len) ee, p.some)

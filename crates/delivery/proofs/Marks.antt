@@ -1,4 +1,4 @@
--- A word whose set bits are the numbers of a route: one more bit for one more number.
+-- A set that has the numbers of a route: one node more for one more number.
 use Prim.Native.Nat.{ℕ, zero, suc, ◌+◌, ◌*◌, ◌-◌, ◌/◌, ◌%◌, ◌^◌, ◌<◌, ◌≤◌}
 use mathlib.Core.Path.{◌≡◌, refl, sym, ap, ◌∙◌}
 use mathlib.Core.List.{List, [], ◌∷◌}
@@ -7,15 +7,18 @@ use native.Mathlib.Omega.{arith}
 use native.Mathlib.Nat.{pow-suc, div-lt_iff_lt-mul}
 use native.Mathlib.Decide.{dec_le}
 use lib.Bits.{bit_and, bit_or, and_shr, and_mod, and_self, or_shr, or_mod, or_zero_l, or_zero_r, or_self}
-use lib.Pow.{pow_pos, pow-lt, pow-add, shl-shr, shr_le, shl_exact}
+use lib.Pow.{pow_pos, pow-lt, pow-add, shl-shr, shr_le}
 use lib.Dec.{eqb}
 use borrow.Author.Tests.{eq-eqb, ne_eqb, eqb-true, eqb-false}
 use Rattle.rules.specs.Words.{faulty}
-use Rattle.rules.specs.Routes.{free, receiver}
+use Rattle.rules.specs.Routes.{back, held, free, receiver}
 use Rattle.rules.specs.Decision.{via}
+use Rattle.rules.specs.Answers.{row_of_route}
 use Rattle.rules.proofs.Counting.{by-test}
 use Rattle.rules.proofs.Receivers.{free-swap, receiver-is-free}
-use Rattle.delivery.specs.Told.{Marks}
+use Rattle.rules.proofs.Rows.{held-row}
+use Rattle.rules.specs.declared.Route as R
+use Rattle.delivery.specs.Marks.{Marks}
 
 -- ---- the bits of a power of two
 
@@ -84,6 +87,14 @@ unfolding via
 marks-via used used' j [] m e = marks-more used used' j [] m e
 marks-via used used' j (i ∷ p) m e = record { marks = λ x. (marks-more used used' j (i ∷ p) m e).marks x ∙ ap not (free-swap j i p x) }
 
+-- on a route of one number, and on one made longer
+pub marks-one : (used i : ℕ) (row : List ℕ) → used ≡ bit_or 0 (2 ^ i) → Marks used (held (record { nodes = i ∷ row; len = 1 }))
+unfolding back
+marks-one used i row e = marks-more 0 used i [] marks-none e
+
+pub marks-longer : (used used' j : ℕ) (r e : R.Route) → Marks used (held r) → e ≡ row_of_route (via j (held r)) → used' ≡ bit_or used (2 ^ j) → Marks used' (held e)
+marks-longer used used' j r e m ee eu = rw (ee, held-row) (marks-via used used' j (held r) m eu)
+
 -- ---- with the sender marked too, those who are not marked may receive
 
 pub marks-taken : (used taken n sender x : ℕ) (p : List ℕ) (b : Bool) → Marks used p → taken ≡ bit_or used (2 ^ sender) → x < n → b ≡ faulty taken x
@@ -111,9 +122,3 @@ apart faults used x none on =
   where
     go : bit_and 1 1 ≡ 0 → ⊥
     go h = let s = and_self 1 in omega arith
-
--- ---- what the code computes with
-
--- below 16 a shifted 1 stays within its word
-pub mark-is : (used a : ℕ) → a < 16 → bit_or used (1 * 2 ^ a % 65536) ≡ bit_or used (2 ^ a)
-mark-is used a h = ap (bit_or used) (shl_exact {a = 1} 1 a 16 (omega arith) (omega arith) ∙ (omega arith))

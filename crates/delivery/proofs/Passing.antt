@@ -2,12 +2,12 @@
 use Prim.Native.Nat.{ℕ, zero, suc, ◌+◌, ◌-◌, ◌<◌}
 use mathlib.Core.Path.{◌≡◌, refl, sym, ap, ◌∙◌}
 use mathlib.Core.List.{List, [], ◌∷◌}
-use mathlib.Core.Bool.{Bool, true, false, not, and-false}
+use mathlib.Core.Bool.{true, false, not, and-false}
 use native.Mathlib.Omega.{arith}
 use lib.ListN.{get_or}
-use lib.Bits.{bit_and}
+use lib.Bits.{bit_and, and_comm}
 use lib.Dec.{eqb}
-use borrow.Author.Tests.{eqb-true, not-true, not-false}
+use borrow.Author.Tests.{eqb-true, not-false}
 use Rattle.rules.specs.Words.{word_at, plain, faulty}
 use Rattle.rules.specs.Routes.{back, held, free, receiver, is_path}
 use Rattle.rules.specs.Cells.{cell}
@@ -22,34 +22,32 @@ use Rattle.rules.proofs.Clauses.{told-by-faulty}
 use Rattle.rules.specs.declared.Settings.{Settings}
 use Rattle.rules.specs.declared.Route as R
 use Rattle.routes.specs.Needs.{Extendable}
-use Rattle.delivery.specs.Told.{Told, Sent, Marks, Marked, Relayed}
+use Rattle.delivery.specs.Marks.{Marks}
+use Rattle.delivery.specs.Told.{Given, Told, Relayed}
 use Rattle.delivery.proofs.Delivering.{on_none, from_cell, passed_on}
 use Rattle.delivery.proofs.Marks
 
 -- ---- what the sender told a node
 
-module _ (s : Settings) (t : List ℕ) (to : ℕ) (row : List ℕ) (p : Sent s t to) where
-  -- that node's number is a route
-  pub sent-told : Told s t (record { nodes = to ∷ row; len = 1 })
-  unfolding back is_path
-  sent-told =
-      record { given = p.given; some = omega arith; short = omega arith; path = path-next s.n s.sender [] to p.node refl }
+-- that node's number is a route
+pub sent-told : (s : Settings) (to : ℕ) (r : R.Route) (row : List ℕ) → receiver s.n s.sender [] to ≡ true → r ≡ record { nodes = to ∷ row; len = 1 } → Told s r
+unfolding back is_path
+sent-told s to r row node e =
+    rw e record { some = omega arith; short = omega arith; path = path-next s.n s.sender [] to node refl }
 
-  pub sender-lt : (x : ℕ) → x ≡ s.sender → x < 16
-  sender-lt x e = omega (arith, p.given.judged.sender-below, p.given.judged.fifteen)
+module _ (s : Settings) (t : List ℕ) (to : ℕ) where
+  -- a fault-free sender told its value
+  pub sent-value : false ≡ faulty s.faults s.sender → s.value ≡ delivered s t (to ∷ [])
+  unfolding back
+  sent-value off = on_none s t (to ∷ []) ∙ passed_on s t (to ∷ []) 1 (omega arith) (sym off)
 
-  module _ (b : Bool) (eb : b ≡ faulty s.faults s.sender) where
-    -- a fault-free sender told its value
-    pub sent-value : (v : ℕ) → not b ≡ true → s.value ≡ v → v ≡ delivered s t (to ∷ [])
-    unfolding back
-    sent-value v off ev = sym ev ∙ on_none s t (to ∷ []) ∙ passed_on s t (to ∷ []) 1 (omega arith) (sym eb ∙ not-true b off)
+  -- and a faulty one what the node's cell holds
+  pub sent-cell : (r : R.Route) (row : List ℕ) (w : ℕ) → true ≡ faulty s.faults s.sender → r ≡ record { nodes = to ∷ row; len = 1 }
+      → w ≡ plain (word_at t (cell s.n s.sender (held r))) → w ≡ delivered s t (to ∷ [])
+  unfolding back
+  sent-cell r row w on er ew = ew ∙ rw er (from_cell s t (to ∷ []) 1 (omega arith) (sym on))
 
-    -- and a faulty one what the node's cell holds
-    pub sent-cell : (c w : ℕ) → not b ≡ false → c ≡ cell s.n s.sender (back (to ∷ row) 1) → w ≡ plain (word_at t c) → w ≡ delivered s t (to ∷ [])
-    unfolding back
-    sent-cell c w on ec ew = ew ∙ rw ec (from_cell s t (to ∷ []) 1 (omega arith) (sym eb ∙ not-false b on))
-
--- ---- by the mask of the numbers on the route
+-- ---- by the set of the numbers on the route
 
 -- the first number of a route whose last is x
 first_of : ℕ → List ℕ → ℕ
@@ -83,39 +81,39 @@ module _ (s : Settings) (t : List ℕ) where
       let fewer : (z : ℕ) → free (y ∷ p) z ≡ false → faulty s.faults z ≡ false = λ z off. h z (rw (off, and-false)) in
       rw (fewer y (free-self y p)) (came-through y p fewer)
 
-  -- the mask says that none is
-  module _ (used faults : ℕ) (p : List ℕ) (m : Marks used p) (ef : s.faults ≡ faults) (none : bit_and faults used ≡ 0) where
+  -- the set says that none is
+  module _ (used : ℕ) (p : List ℕ) (m : Marks used p) (none : bit_and used s.faults ≡ 0) where
     sound : (y : ℕ) → free p y ≡ false → faulty s.faults y ≡ false
-    sound y off = rw ef (Marks.apart faults used y none (m.marks y ∙ ap not off))
+    sound y off = Marks.apart s.faults used y (and_comm s.faults used ∙ none) (m.marks y ∙ ap not off)
+
+-- in the terms that the code has it
+pub none-met : (used faults : ℕ) → false ≡ not (eqb (bit_and used faults) 0) → bit_and used faults ≡ 0
+none-met used faults e = eqb-true (bit_and used faults) 0 (not-false _ (sym e))
 
 -- on the route itself
-module _ (s : Settings) (t : List ℕ) (r : R.Route) (used : ℕ) (p : Marked s t r used) where
+module _ (s : Settings) (t : List ℕ) (r : R.Route) (p : Told s r) where
   -- its last number apart
   before : ℕ
   before = r.len - 1
 
   last_apart : back r.nodes r.len ≡ get_or r.nodes before 0 ∷ back r.nodes before
   unfolding back before
-  last_apart = let e : r.len ≡ suc (r.len - 1) = omega (arith, p.told.some) in ap (back r.nodes) e
+  last_apart = let e : r.len ≡ suc (r.len - 1) = omega (arith, p.some) in ap (back r.nodes) e
 
-  pub first-sent : Sent s t (get_or r.nodes 0 0)
-  first-sent =
-      record {
-        given = p.told.given;
-        node = rw first_back at (first-told s t (get_or r.nodes before 0) (back r.nodes before) (rw last_apart at p.told.path));
-      }
+  pub first-sent : receiver s.n s.sender [] (get_or r.nodes 0 0) ≡ true
+  first-sent = rw first_back at (first-told s t (get_or r.nodes before 0) (back r.nodes before) (rw last_apart at p.path))
 
-  pub first-heard : (faults w : ℕ) → s.faults ≡ faults → bit_and faults used ≡ 0 → w ≡ delivered s t (get_or r.nodes 0 0 ∷ []) → w ≡ delivered s t (held r)
-  first-heard faults w ef none ew =
+  pub first-heard : (used w : ℕ) → Marks used (held r) → bit_and used s.faults ≡ 0 → w ≡ delivered s t (get_or r.nodes 0 0 ∷ []) → w ≡ delivered s t (held r)
+  first-heard used w m none ew =
       let all : (y : ℕ) → free (get_or r.nodes before 0 ∷ back r.nodes before) y ≡ false → faulty s.faults y ≡ false =
-      λ y off. sound s t used faults (held r) p.marks ef none y (ap (λ (q : List ℕ). free q y) last_apart ∙ off) in
+      λ y off. sound s t used (held r) m none y (ap (λ (q : List ℕ). free q y) last_apart ∙ off) in
       ew
       ∙ ap (λ (x : ℕ). delivered s t (x ∷ [])) (sym (first_back r.nodes before))
       ∙ came-through s t (get_or r.nodes before 0) (back r.nodes before) all
       ∙ ap (delivered s t) (sym last_apart)
 
 -- and on the route with one relay more
-module _ (s : Settings) (t : List ℕ) (r : R.Route) (used relay : ℕ) (p : Relayed s t r used relay) where
+module _ (s : Settings) (t : List ℕ) (g : Given s t) (r : R.Route) (relay : ℕ) (p : Relayed s r relay) where
   -- made as a row it is the same route
   module _ (e : R.Route) (ee : e ≡ row_of_route (via relay (held r))) where
     pub relay-held : held e ≡ via relay (held r)
@@ -126,45 +124,44 @@ module _ (s : Settings) (t : List ℕ) (r : R.Route) (used relay : ℕ) (p : Rel
     relay-length = ap (λ (q : R.Route). q.len) ee ∙ omega (arith, length-via relay (held r), length_back r.nodes r.len)
 
     -- a word is delivered on it
-    pub relay-told : Told s t e
+    pub relay-told : Told s e
     relay-told =
         record {
-          given = p.marked.told.given;
           some = omega (arith, relay-length);
           short = omega (arith, relay-length, p.room);
-          path = rw relay-held (path-via s.n s.sender relay (held r) p.marked.told.path p.next);
+          path = rw relay-held (path-via s.n s.sender relay (held r) p.told.path p.next);
         }
 
     pub relay-row : (w : ℕ) → w ≡ delivered s t (held e) → w ≡ delivered s t (via relay (held r))
     relay-row w ew = ew ∙ ap (delivered s t) relay-held
 
   pub relay-extends : Extendable r
-  relay-extends = record { some = p.marked.told.some; room = omega (arith, p.room, p.marked.told.given.judged.three) }
+  relay-extends = record { some = p.told.some; room = omega (arith, p.room, g.judged.three) }
 
   pub relay-lt : relay < 16
-  relay-lt = omega (arith, receiver-below s.n s.sender (held r) relay p.next, p.marked.told.given.judged.fifteen)
+  relay-lt = omega (arith, receiver-below s.n s.sender (held r) relay p.next, g.judged.fifteen)
 
   -- its last number apart
   via-apart : via relay (held r) ≡ get_or r.nodes (r.len - 1) 0 ∷ relay ∷ back r.nodes (r.len - 1)
   unfolding via before
-  via-apart = ap (via relay) (last_apart s t r used p.marked)
+  via-apart = ap (via relay) (last_apart s t r p.told)
 
   -- a faulty relay tells what the cell of the longer route holds
-  pub relay-cell : (e : R.Route) (c w : ℕ) (b : Bool) → e ≡ row_of_route (via relay (held r)) → b ≡ faulty s.faults relay → b ≡ true
-      → c ≡ cell s.n s.sender (held e) → w ≡ plain (word_at t c) → w ≡ delivered s t (via relay (held r))
-  relay-cell e c w b ee eb on ec ew =
+  pub relay-cell : (e : R.Route) (w : ℕ) → e ≡ row_of_route (via relay (held r)) → true ≡ faulty s.faults relay
+      → w ≡ plain (word_at t (cell s.n s.sender (held e))) → w ≡ delivered s t (via relay (held r))
+  relay-cell e w ee on ew =
       ew
-      ∙ rw (ec, relay-held e ee, via-apart)
-      (sym (told-by-faulty s t (get_or r.nodes (r.len - 1) 0) (relay ∷ back r.nodes (r.len - 1)) (sym eb ∙ on)))
+      ∙ rw (relay-held e ee, via-apart)
+      (sym (told-by-faulty s t (get_or r.nodes (r.len - 1) 0) (relay ∷ back r.nodes (r.len - 1)) (sym on)))
 
   -- where neither the relay nor a number of the route is faulty, none on the longer route is
-  relay-sound : (faults : ℕ) → s.faults ≡ faults → bit_and faults used ≡ 0 → faulty s.faults relay ≡ false
+  relay-sound : (used : ℕ) → Marks used (held r) → bit_and used s.faults ≡ 0 → faulty s.faults relay ≡ false
       → (y : ℕ) → free (via relay (held r)) y ≡ false → faulty s.faults y ≡ false
   unfolding free
-  relay-sound faults ef none off y out =
+  relay-sound used m none off y out =
       by-test (eqb y relay)
       (λ (h : eqb y relay ≡ true). rw (eqb-true y relay h) off)
-      (λ (h : eqb y relay ≡ false). sound s t used faults (held r) p.marked.marks ef none y (rw h at (sym (free-via relay (held r) y) ∙ out)))
+      (λ (h : eqb y relay ≡ false). sound s t used (held r) m none y (rw h at (sym (free-via relay (held r) y) ∙ out)))
 
   -- its first number is the relay if there was one number, and else the first there was
   pub Begins : ℕ → Type 0
@@ -177,26 +174,23 @@ module _ (s : Settings) (t : List ℕ) (r : R.Route) (used relay : ℕ) (p : Rel
   pub begins-first : (first : ℕ) → (r.len ≡ 1 → ⊥) → first ≡ get_or r.nodes 0 0 → Begins first
   unfolding Begins back first_of
   begins-first first more e =
-      let z : r.len - 1 ≡ suc (r.len - 2) = omega (arith, p.marked.told.some) in
+      let z : r.len - 1 ≡ suc (r.len - 2) = omega (arith, p.told.some) in
       ap (λ (k : ℕ). first_of relay (back r.nodes k)) z ∙ first_back r.nodes (r.len - 2) ∙ sym e
 
   module _ (first : ℕ) (begins : Begins first) where
-    pub relay-sent : Sent s t first
+    pub relay-sent : receiver s.n s.sender [] first ≡ true
     unfolding Begins first_of
     relay-sent =
-        let path = path-via s.n s.sender relay (held r) p.marked.told.path p.next in
-        record {
-          given = p.marked.told.given;
-          node = rw begins at (first-told s t (get_or r.nodes (r.len - 1) 0) (relay ∷ back r.nodes (r.len - 1)) (rw via-apart at path));
-        }
+        let path = path-via s.n s.sender relay (held r) p.told.path p.next in
+        rw begins at (first-told s t (get_or r.nodes (r.len - 1) 0) (relay ∷ back r.nodes (r.len - 1)) (rw via-apart at path))
 
     -- with no faulty number on it, what the first was told came through
-    pub relay-heard : (faults w : ℕ) (b : Bool) → s.faults ≡ faults → bit_and faults used ≡ 0 → b ≡ faulty s.faults relay → b ≡ false
+    pub relay-heard : (used w : ℕ) → Marks used (held r) → bit_and used s.faults ≡ 0 → false ≡ faulty s.faults relay
         → w ≡ delivered s t (first ∷ []) → w ≡ delivered s t (via relay (held r))
     unfolding Begins first_of
-    relay-heard faults w b ef none eb off ew =
+    relay-heard used w m none off ew =
         let all : (y : ℕ) → free (get_or r.nodes (r.len - 1) 0 ∷ relay ∷ back r.nodes (r.len - 1)) y ≡ false → faulty s.faults y ≡ false =
-        λ y out. relay-sound faults ef none (sym eb ∙ off) y (ap (λ (q : List ℕ). free q y) via-apart ∙ out) in
+        λ y out. relay-sound used m none (sym off) y (ap (λ (q : List ℕ). free q y) via-apart ∙ out) in
         ew
         ∙ ap (λ (x : ℕ). delivered s t (x ∷ [])) (sym begins)
         ∙ came-through s t (get_or r.nodes (r.len - 1) 0) (relay ∷ back r.nodes (r.len - 1)) all

@@ -1,8 +1,8 @@
-// The word delivered on a route, and the masks of nodes that say it faster.
+// The word delivered on a route, and the sets of nodes that say it faster.
 #![tactic(auto)]
 
-mod masks; // masks of nodes
+mod nodes; // sets of nodes, and routes that carry one
 mod told; // the word delivered on a route
 
-pub use masks::{in_mask, marked};
-pub use told::{arrives, delivered, relayed};
+pub use nodes::{Nodes, Path};
+pub use told::Messages;

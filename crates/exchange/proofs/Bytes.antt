@@ -13,10 +13,11 @@ use Rattle.rules.specs.Words.{word_at, plain, words_of, bytes_of, put_word}
 use Rattle.rules.proofs.Counting.{all-at, map-up_to}
 use Rattle.rules.proofs.Ordinary.{ordinary}
 use Rattle.rules.proofs.WordRows.{length-bytes, word-of-bytes, plain-same}
+use Rattle.exchange.specs.Entries.{Gathered}
 
 -- ---- one word more
 
-bytes-snoc : (ws : List ℕ) (w : ℕ) → bytes_of (ws ++ (w ∷ [])) ≡ bytes_of ws ++ (w / 256 ∷ w % 256 ∷ [])
+bytes-snoc : (ws : List ℕ) (w : ℕ) → bytes_of ws ++ bytes_of (w ∷ []) ≡ bytes_of (ws ++ (w ∷ []))
 unfolding bytes_of
 bytes-snoc [] w = refl
 bytes-snoc (a ∷ ws) w = rw (bytes-snoc ws w)
@@ -29,13 +30,20 @@ two-more l k a b h =
     ∙ ap (λ (z : List ℕ). z ++ (b ∷ [])) (take-suc-set l k a (omega arith))
     ∙ append_assoc (take k l) (a ∷ []) (b ∷ []))
 
--- a word put behind the words that stand in front
+-- a word put behind those in front is one more of them
+put-more : (bytes : List ℕ) (k w : ℕ) → 2 * k + 1 < length bytes → take (2 * (k + 1)) (put_word bytes k w) ≡ take (2 * k) bytes ++ bytes_of (w ∷ [])
+unfolding put_word bytes_of
+put-more bytes k w h =
+    let two : 2 * (k + 1) ≡ 2 * k + 2 = omega arith in
+    rw (two, two-more bytes (2 * k) (w / 256) (w % 256) h)
+
 pub put-behind : (bytes : List ℕ) (ws : List ℕ) (k w : ℕ) → 2 * k + 1 < length bytes → take (2 * k) bytes ≡ bytes_of ws
     → take (2 * (k + 1)) (put_word bytes k w) ≡ bytes_of (ws ++ (w ∷ []))
-unfolding put_word
-put-behind bytes ws k w h e =
-    let two : 2 * (k + 1) ≡ 2 * k + 2 = omega arith in
-    rw (two, two-more bytes (2 * k) (w / 256) (w % 256) h, e) (sym (bytes-snoc ws w))
+put-behind bytes ws k w h e = put-more bytes k w h ∙ rw e (bytes-snoc ws w)
+
+-- what is gathered is its bytes and its ties
+pub same-gathered : (b b' : List ℕ) (k k' : ℕ) → b ≡ b' → k ≡ k' → ◌≡◌ {A = Gathered} (record { bytes = b; ties = k }) (record { bytes = b'; ties = k' })
+same-gathered b b' k k' eb ek = rw (eb, ek)
 
 -- ---- read again
 

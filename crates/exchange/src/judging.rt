@@ -1,23 +1,22 @@
 // Judging: what an exchange is turned away for.
 ghost use Rattle.std.specs.Prelude.{◌≡◌};
+ghost use Rattle.rules.specs.Numbers.{RefusedOr};
 ghost use Rattle.rules.specs.Refusals.{exchange_refusal};
+ghost use Rattle.settings.specs.Judged.{settings_of};
 
-use rules::Settings;
-use settings::{message_count, settings_refusal};
+use rules::{Refusal, Settings};
+use settings::{Judged, message_count};
 
-// 1 to 9, for a table and a row of so many bytes, or 0. What stands in the table is not looked at.
-pub fn refusal(s: Settings, table: usize, row: usize) -> u32
-    ensures { result ≡ exchange_refusal s table row }
+// The refusal is the lowest of 1 to 9 that applies, for a table and a row of so many bytes. What stands in the table is not looked at.
+pub fn judged(s: Settings, table: usize, row: usize) -> Result<Judged, Refusal>
+    ensures { RefusedOr (exchange_refusal s table row) (λ j. settings_of j ≡ s) result }
 {
-    let number = settings_refusal(s);
-    if number != 0 {
-        return number;
-    }
+    let judged = Judged::try_from(s)?;
     if table != 2 * message_count(s.n, s.m) {
-        return 8;
+        return Err(Refusal::WrongTable);
     }
     if row != 2 * s.n as usize {
-        return 9;
+        return Err(Refusal::WrongRow);
     }
-    0
+    Ok(judged)
 }

@@ -1,4 +1,3 @@
 pub mod Every
 pub mod FrameRows
-pub mod Bits
 pub mod Unique

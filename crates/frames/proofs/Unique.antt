@@ -20,6 +20,8 @@ use Rattle.frames.proofs.fields.word_told.Reads as word-told
 use Rattle.frames.proofs.fields.word_told.Kinds as word-told-kinds
 use Rattle.frames.proofs.fields.count_in.Reads as count-in
 use Rattle.frames.proofs.fields.count_in.Kinds as count-in-kinds
+use Rattle.frames.proofs.fields.line_in.Reads as line-in
+use Rattle.frames.proofs.fields.line_in.Kinds as line-in-kinds
 use Rattle.frames.proofs.marks.is_marked.Reads as is-marked
 use Rattle.frames.proofs.marks.is_marked.Kinds as is-marked-kinds
 use Rattle.frames.proofs.marks.set_mark.Reads as set-mark
@@ -30,14 +32,16 @@ use Rattle.frames.proofs.marks.clear.Kinds as clear-kinds
 pub one-digit-of : OneResult 0 digit-of-kinds.ps digit-of-kinds.r digit-of.Post
 one-digit-of κs a x y s t p q = p ∙ sym q
 
-pub one-no-frame : OneResult 0 no-frame-kinds.ps no-frame-kinds.r no-frame.Post
+pub one-no-frame : OneResult 1 no-frame-kinds.ps no-frame-kinds.r no-frame.Post
 one-no-frame κs a x y s t p q = p ∙ sym q
 
-pub one-frame-of : OneResult 0 frame-of-kinds.ps frame-of-kinds.r frame-of.Post
+pub one-frame-of : OneResult 1 frame-of-kinds.ps frame-of-kinds.r frame-of.Post
 one-frame-of κs a x y s t p q = p ∙ sym q
 
 pub one-size-of : OneResult 0 size-of-kinds.ps size-of-kinds.r size-of.Post
 one-size-of κs a x y s t p q = p ∙ sym q
+
+-- ---- what a frame holds: each field, and the line that they are of
 
 pub one-settings-in : OneResult 0 settings-in-kinds.ps settings-in-kinds.r settings-in.Post
 one-settings-in κs a x y s t p q = p ∙ sym q
@@ -50,6 +54,11 @@ one-word-told κs a x y s t p q = p ∙ sym q
 
 pub one-count-in : OneResult 0 count-in-kinds.ps count-in-kinds.r count-in.Post
 one-count-in κs a x y s t p q = p ∙ sym q
+
+pub one-line-in : OneResult 0 line-in-kinds.ps line-in-kinds.r line-in.Post
+one-line-in κs a x y s t p q = p ∙ sym q
+
+-- ---- marks
 
 pub one-is-marked : OneResult 1 is-marked-kinds.ps is-marked-kinds.r is-marked.Post
 one-is-marked κs a x y s t p q = p ∙ sym q

@@ -1,5 +1,5 @@
 // Hexadecimal digits and the bytes that they write.
-ghost use Rattle.std.specs.Prelude.{◌≡◌, true, false, ◌+◌, ◌*◌, ◌<◌, ◌≤◌, take};
+ghost use Rattle.std.specs.Prelude.{◌≡◌, true, false, ◌+◌, ◌*◌, ◌<◌};
 ghost use Rattle.rules.specs.Lists.{all};
 ghost use Rattle.scenario.specs.Hex.{is_digit, digit_value, digit_of, frame_of};
 ghost use Rattle.scenario.specs.Reasons.{no_frame};
@@ -10,25 +10,20 @@ ghost use Rattle.frames.specs.Rows.{frame_row};
 fn is_digit(byte: u8) -> bool
     ensures { result ≡ is_digit byte }
 {
-    if byte < 48 {
-        return false;
-    }
-    if byte <= 57 {
-        return true;
-    }
-    if byte < 65 {
-        return false;
-    }
-    byte <= 70
+    matches!(byte, b'0'..=b'9' | b'A'..=b'F')
 }
 
 // What a digit stands for.
-#[tactic(auto, using(crate::proofs::Every::digit_low), unfolding(scenario::specs::Hex::digit_value))]
+#[tactic(auto, unfolding(scenario::specs::Hex::is_digit, scenario::specs::Hex::digit_value))]
 fn digit_value(byte: u8) -> u8
     requires { is_digit byte ≡ true }
     ensures { result ≡ digit_value byte }
 {
-    if byte < 65 { byte - 48 } else { byte - 55 }
+    if byte < b'A' {
+        byte - b'0'
+    } else {
+        byte - b'A' + 10
+    }
 }
 
 // The digit that stands for a number below 16.
@@ -37,22 +32,18 @@ pub fn digit_of(value: u8) -> u8
     requires { value < 16 }
     ensures { result ≡ digit_of value }
 {
-    if value < 10 { 48 + value } else { 55 + value }
+    if value < 10 {
+        b'0' + value
+    } else {
+        b'A' + (value - 10)
+    }
 }
 
 // Every byte of a line is a digit.
-fn all_digits(held: [u8; 19], count: usize) -> bool
-    requires { count ≤ 19 }
-    ensures { result ≡ all is_digit (take count held) }
+fn all_digits(line: &[u8]) -> bool
+    ensures { result ≡ all is_digit line.now }
 {
-    let mut i = 0;
-    while i < count {
-        if !is_digit(held[i]) {
-            return false;
-        }
-        i += 1;
-    }
-    true
+    line.iter().all(|byte| is_digit(*byte))
 }
 
 // The byte that two digits write.
@@ -63,33 +54,22 @@ fn byte_of(high: u8, low: u8) -> u8
     digit_value(high) * 16 + digit_value(low)
 }
 
-// 20: a line of no digits, of an odd number or of more than 18, or with a byte that is none.
-#[tactic(auto, using(crate::proofs::FrameRows::count_told))]
-pub fn no_frame(held: [u8; 19], count: usize) -> bool
-    ensures { result ≡ no_frame (take count held) }
+// `NoFrame`: a line of no digits, of an odd number or of more than 18, or with a byte that is none.
+#[tactic(auto, unfolding(scenario::specs::Reasons::no_frame))]
+pub fn no_frame(line: &[u8]) -> bool
+    ensures { result ≡ no_frame line.now }
 {
-    if count == 0 {
-        return true;
-    }
-    if count > 18 {
-        return true;
-    }
-    if count % 2 != 0 {
-        return true;
-    }
-    !all_digits(held, count)
+    line.is_empty() || line.len() % 2 != 0 || line.len() > 18 || !all_digits(line)
 }
 
 // The bytes that a line writes, with zeros behind them.
-pub fn frame_of(held: [u8; 19], count: usize) -> [u8; 9]
-    requires { no_frame (take count held) ≡ false }
-    ensures { result ≡ frame_row (frame_of (take count held)) }
+pub fn frame_of(line: &[u8]) -> [u8; 9]
+    requires { no_frame line.now ≡ false }
+    ensures { result ≡ frame_row (frame_of line.now) }
 {
     let mut frame = [0u8; 9];
-    let mut i = 0;
-    while i < count / 2 {
-        frame[i] = byte_of(held[2 * i], held[2 * i + 1]);
-        i += 1;
+    for (i, digits) in line.chunks_exact(2).enumerate() {
+        frame[i] = byte_of(digits[0], digits[1]);
     }
     frame
 }

@@ -1,37 +1,22 @@
 // What the frames of the three kinds hold. A frame is a row of nine bytes, with zeros behind its last.
+// Kept: a kind is the byte that a file has, matched in `size_of` and `line_in`: an enum of kinds would be made of it to be matched once.
 ghost use Rattle.std.specs.Prelude.{◌≡◌, ◌+◌, ◌*◌, ◌≤◌};
-ghost use Rattle.scenario.specs.Frames.{byte_in, settings_in, route_in, word_told, count_in};
+ghost use Rattle.scenario.specs.Frames.{byte_in, settings_in, route_in, word_told, count_in, line_in};
 ghost use Rattle.scenario.specs.Reasons.{size_of};
 
 use rules::{Route, Settings};
-use words::wide;
-
-// A byte as a number of the settings.
-fn number(byte: u8) -> u32
-    ensures { result ≡ byte }
-{
-    byte as u32
-}
-
-// The word that two bytes make, high byte first.
-fn word(high: u8, low: u8) -> u16
-    ensures { result ≡ high * 256 + low }
-{
-    (high as u16) * 256 + (low as u16)
-}
+use scenario::Line;
 
 // The byte count of a frame's kind.
 #[tactic(auto, unfolding(scenario::specs::Reasons::size_of))]
 pub fn size_of(frame: [u8; 9]) -> usize
     ensures { result ≡ size_of frame }
 {
-    if frame[0] == 1 {
-        return 9;
+    match frame[0] {
+        1 => 9,
+        2 => 4 + usize::from(frame[1]),
+        _ => 3,
     }
-    if frame[0] == 2 {
-        return 4 + wide(frame[1]);
-    }
-    3
 }
 
 // `01`: N, m, u, sender, value, fault word.
@@ -40,12 +25,12 @@ pub fn settings_in(frame: [u8; 9]) -> Settings
     ensures { result ≡ settings_in frame }
 {
     Settings {
-        n: number(frame[1]),
-        m: number(frame[2]),
-        u: number(frame[3]),
-        sender: number(frame[4]),
-        value: word(frame[5], frame[6]),
-        faults: word(frame[7], frame[8]),
+        n: u32::from(frame[1]),
+        m: u32::from(frame[2]),
+        u: u32::from(frame[3]),
+        sender: u32::from(frame[4]),
+        value: u16::from_be_bytes([frame[5], frame[6]]),
+        faults: u16::from_be_bytes([frame[7], frame[8]]),
     }
 }
 
@@ -56,20 +41,18 @@ pub fn route_in(frame: [u8; 9]) -> Route
 {
     Route {
         nodes: [frame[2], frame[3], frame[4], frame[5]],
-        len: number(frame[1]),
+        len: u32::from(frame[1]),
     }
 }
 
 // `02`: the word behind the L node numbers.
 #[tactic(auto, unfolding(scenario::specs::Frames::word_told))]
 pub fn word_told(frame: [u8; 9]) -> u16
-    requires { byte_in frame 1 ≤ 4 }
+    requires { byte_in frame 1 ≤ 5 }
     ensures { result ≡ word_told frame }
 {
-    let at = 2 + wide(frame[1]);
-    let high = frame[at];
-    let low = frame[at + 1];
-    word(high, low)
+    let at = 2 + usize::from(frame[1]);
+    u16::from_be_bytes([frame[at], frame[at + 1]])
 }
 
 // `03`: the number of `02` lines.
@@ -77,5 +60,21 @@ pub fn word_told(frame: [u8; 9]) -> u16
 pub fn count_in(frame: [u8; 9]) -> u16
     ensures { result ≡ count_in frame }
 {
-    word(frame[1], frame[2])
+    u16::from_be_bytes([frame[1], frame[2]])
+}
+
+// What a frame says whose size is its kind's; an unknown kind is read as an `03` line.
+#[tactic(auto, unfolding(scenario::specs::Frames::line_in, scenario::specs::Reasons::size_of))]
+pub fn line_in(frame: [u8; 9]) -> Line
+    requires { size_of frame ≤ 9 }
+    ensures { result ≡ line_in frame }
+{
+    match frame[0] {
+        1 => Line::Opening(settings_in(frame)),
+        2 => Line::Telling {
+            route: route_in(frame),
+            word: word_told(frame),
+        },
+        _ => Line::Closing(count_in(frame)),
+    }
 }

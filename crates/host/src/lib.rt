@@ -1,5 +1,7 @@
 // What the package's C host is offered, on numbers and byte slices. Each function hands on what it got and judges nothing; its
-// contract is that of the function it calls, restated whole. The crate host_c exports each to C under the same name.
+// contract is what the function it calls answers, restated whole. C has no `Result`: the number of a refusal stands beside the values,
+// 0 where nothing is refused, and beside a refusal every other field is its default. The crate host_c exports each to C under the
+// same name.
 #![tactic(auto)]
 
 ghost use Rattle.std.specs.Prelude.{◌≡◌, [], ◌∷◌, length};
@@ -7,9 +9,10 @@ ghost use Rattle.rules.specs.Words.{settings};
 ghost use Rattle.rules.specs.Exchange.{summary_of, row_after};
 ghost use Rattle.rules.specs.Answers.{ballot_of, cell_found, route_found, part_found};
 
-use rules::{Ballot, CellFound, RoundPart, Route, RouteFound, Settings, Summary};
+use rules::{Ballot, CellFound, Outcome, RoundPart, Route, RouteFound, Settings, Summary};
 
 // One exchange: the decision row is written, or, where the call is refused, keeps its bytes.
+#[tactic(auto, unfolding(rules::specs::Exchange::summary_of, rules::specs::Exchange::refused))]
 pub fn tsegumbar_exchange(
     n: u32,
     m: u32,
@@ -22,28 +25,43 @@ pub fn tsegumbar_exchange(
 ) -> Summary
     ensures { (result ≡ summary_of (settings n m u sender value faults) table.now (length row.old)) × (row.new ≡ row_after (settings n m u sender value faults) table.now row.old) }
 {
-    exchange::exchange(
-        Settings {
-            n,
-            m,
-            u,
-            sender,
-            value,
-            faults,
+    let settings = Settings {
+        n,
+        m,
+        u,
+        sender,
+        value,
+        faults,
+    };
+    match exchange::exchange(settings, table, row) {
+        Ok(summary) => summary,
+        Err(e) => Summary {
+            refusal: e.number().into(),
+            ..Summary::default()
         },
-        table,
-        row,
-    )
+    }
 }
 
 // The vote alone, over a list of words.
+#[tactic(auto, unfolding(rules::specs::Answers::ballot_of))]
 pub fn tsegumbar_vote(threshold: usize, list: &[u8]) -> Ballot
     ensures { result ≡ ballot_of threshold list.now }
 {
-    votes::cast_vote(threshold, list)
+    match votes::cast_vote(threshold, list) {
+        Ok(Outcome { word, tie }) => Ballot {
+            refusal: 0,
+            word,
+            tie,
+        },
+        Err(e) => Ballot {
+            refusal: e.number().into(),
+            ..Ballot::default()
+        },
+    }
 }
 
 // Route to cell; the route is its four places and its length.
+#[tactic(auto, unfolding(rules::specs::Answers::cell_found))]
 pub fn tsegumbar_cell_of_route(
     n: u32,
     m: u32,
@@ -57,19 +75,43 @@ pub fn tsegumbar_cell_of_route(
     ensures { result ≡ cell_found n m sender (record { nodes = a ∷ b ∷ c ∷ d ∷ []; len = len }) }
 {
     let nodes = [a, b, c, d];
-    conversions::cell_of_route(n, m, sender, Route { nodes, len })
+    match conversions::cell_of_route(n, m, sender, Route { nodes, len }) {
+        Ok(cell) => CellFound { refusal: 0, cell },
+        Err(e) => CellFound {
+            refusal: e.number().into(),
+            ..CellFound::default()
+        },
+    }
 }
 
 // Cell to route.
+#[tactic(auto, unfolding(rules::specs::Answers::route_found, rules::specs::Answers::row_of_route, rules::specs::Routes::written))]
 pub fn tsegumbar_route_of_cell(n: u32, m: u32, sender: u32, cell: u32) -> RouteFound
     ensures { result ≡ route_found n m sender cell }
 {
-    conversions::route_of_cell(n, m, sender, cell)
+    match conversions::route_of_cell(n, m, sender, cell) {
+        Ok(route) => RouteFound { refusal: 0, route },
+        Err(e) => RouteFound {
+            refusal: e.number().into(),
+            ..RouteFound::default()
+        },
+    }
 }
 
 // Where one round's part of a table starts and ends, in bytes.
+#[tactic(auto, unfolding(rules::specs::Answers::part_found))]
 pub fn tsegumbar_round_part(n: u32, m: u32, table: &[u8], round: u32) -> RoundPart
     ensures { result ≡ part_found n m (length table.now) round }
 {
-    conversions::round_place(n, m, table.len(), round)
+    match conversions::round_place(n, m, table.len(), round) {
+        Ok(part) => RoundPart {
+            refusal: 0,
+            start: part.start,
+            end: part.end,
+        },
+        Err(e) => RoundPart {
+            refusal: e.number().into(),
+            ..RoundPart::default()
+        },
+    }
 }

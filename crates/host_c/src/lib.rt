@@ -1,5 +1,6 @@
 // What the package's C host calls: the functions that include/tsegumbar.h declares. Each is the function of the same name in the
-// crate host, under the same contract. This crate is built as an archive for C, and such a crate can be no library for others.
+// crate host, under the same contract.
+// Kept: both crates, since this one is built as an archive for C, and such a crate can be no library for others.
 #![tactic(auto)]
 
 ghost use Rattle.std.specs.Prelude.{◌≡◌, [], ◌∷◌, length};

@@ -1,15 +1,14 @@
 -- Pieces fed one after another.
-use mathlib.Core.Path.{◌≡◌, refl, sym, ap, ◌∙◌}
+use mathlib.Core.Path.{◌≡◌, refl, sym, ◌∙◌}
 use mathlib.Core.List.{List, [], ◌∷◌, ◌++◌, append_assoc, append-nil, flatten, foldl-append}
 use Prim.Native.Nat.{ℕ, ◌+◌, ◌≤◌}
 use native.Mathlib.Omega.{arith}
-use lib.ListN.{length, take, length-append}
+use lib.ListN.{length, take}
 use lib.Seq.{length-take-le}
 use Rattle.std.specs.Prelude.{Option, None, Some}
 use Rattle.std.specs.Io.KnownBytes.{Keeps, Consumes}
-use Rattle.std.proofs.KnownBytes.{Consumes-nil, Consumes-trans, Consumes-kept, Keeps-refl}
+use Rattle.std.proofs.KnownBytes.{Consumes-nil, Consumes-trans, Consumes-kept}
 use Rattle.scenario.specs.Reasons.{Desk, desk}
-use Rattle.scenario.specs.File.{fresh, begun}
 use Rattle.scenario.specs.Feeding.{fed}
 use Rattle.answering.specs.Finish.{length_after}
 use Rattle.scenario.specs.declared.Reader.{Reader}
@@ -21,9 +20,9 @@ pub fed-none : (d : Desk) → Fed d d
 fed-none d = record { pieces = []; fed = refl }
 
 -- where a piece came, it was fed
-pub fed-piece : (d : Desk) (piece : List ℕ) (x : Reader) (table marks : List ℕ) → x ≡ (fed d piece).reader → table ≡ (fed d piece).table → marks ≡ (fed d piece).marks
-    → Fed d (desk x table marks)
-fed-piece d piece x table marks r t m = record { pieces = piece ∷ []; fed = rw (r, t, m) }
+pub fed_piece : (was d : Desk) (piece : List ℕ) (x : Reader) (table marks : List ℕ) → d ≡ was
+    → x ≡ (fed d piece).reader → table ≡ (fed d piece).table → marks ≡ (fed d piece).marks → Fed was (desk x table marks)
+fed_piece was d piece x table marks is r t m = record { pieces = piece ∷ []; fed = rw (r, t, m, is) }
 
 -- what was fed after what was fed before
 pub fed_then : (a b c : Desk) → Fed a b → Fed b c → Fed a c
@@ -37,21 +36,13 @@ pub from_kept : (d : Desk) (left rest : Option (List ℕ)) → Keeps left rest �
 unfolding flatten fed-none
 from_kept d left rest k = record { all = fed-none d; taken = Consumes-kept left left rest [] (Consumes-nil left) k }
 
--- where reading begins, nothing came
-pub from_start : (x : Reader) (table marks : List ℕ) (left : Option (List ℕ)) → x ≡ fresh → FedFrom left left (begun table marks) (desk x table marks)
-from_start x table marks left e = rw e (from_kept (begun table marks) left left (Keeps-refl left))
-
--- nor did one of which no byte was taken
-pub from_none : (d : Desk) (left rest : Option (List ℕ)) (buffer : List ℕ) (n : ℕ) → n ≡ 0 → Consumes left rest (take n buffer) → FedFrom left rest d d
-unfolding flatten fed-none
-from_none d left rest buffer n e taken = record { all = fed-none d; taken = rw e at taken }
-
 -- a piece that the input gave
-pub from_piece : (d : Desk) (piece : List ℕ) (x : Reader) (table marks : List ℕ) (left rest : Option (List ℕ)) → x ≡ (fed d piece).reader → table ≡ (fed d piece).table → marks ≡ (fed d piece).marks
-    → Consumes left rest piece → FedFrom left rest d (desk x table marks)
-unfolding flatten fed-piece
-from_piece d piece x table marks left rest r t m taken =
-    record { all = fed-piece d piece x table marks r t m; taken = rw append-nil taken }
+pub from_piece : (was d : Desk) (piece : List ℕ) (x : Reader) (table marks : List ℕ) (left rest : Option (List ℕ)) → d ≡ was
+    → x ≡ (fed d piece).reader → table ≡ (fed d piece).table → marks ≡ (fed d piece).marks → Consumes left rest piece
+    → FedFrom left rest was (desk x table marks)
+unfolding flatten fed_piece
+from_piece was d piece x table marks left rest is r t m taken =
+    record { all = fed_piece was d piece x table marks is r t m; taken = rw append-nil taken }
 
 flatten-append : (xs ys : List (List ℕ)) → flatten (xs ++ ys) ≡ flatten xs ++ flatten ys
 unfolding flatten
@@ -72,16 +63,6 @@ from_then a b c left mid rest first then =
 pub loses_none : (left : Option (List ℕ)) → Loses left left 0
 loses_none None = tt
 loses_none (Some xs) = omega arith
-
-pub loses_piece : (left rest : Option (List ℕ)) (buffer : List ℕ) (n : ℕ) → Consumes left rest (take n buffer) → n ≡ length (take n buffer) → (n ≡ 0 → ⊥) → Loses left rest 1
-loses_piece None rest buffer n taken long some = tt
-loses_piece (Some xs) None buffer n taken long some = elim taken [ ]
-loses_piece (Some xs) (Some ys) buffer n taken long some = omega (arith, ap length taken, length-append (take n buffer) ys)
-
-pub loses_fewer : (left rest : Option (List ℕ)) (m n : ℕ) → n ≤ m → Loses left rest m → Loses left rest n
-loses_fewer None rest m n fewer lost = tt
-loses_fewer (Some xs) None m n fewer lost = elim lost [ ]
-loses_fewer (Some xs) (Some ys) m n fewer lost = omega arith
 
 pub loses_then : (left mid rest : Option (List ℕ)) (m n : ℕ) → Loses left mid m → Loses mid rest n → Loses left rest (m + n)
 loses_then None mid rest m n first then = tt

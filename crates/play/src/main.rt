@@ -2,9 +2,8 @@
 // answer. It judges nothing itself. A read that fails is no end of the input: then nothing is written.
 #![tactic(auto)]
 
-ghost use Rattle.std.specs.Prelude.{◌≡◌, ◌-◌, ◌^◌, IsNone, IfErr, OnOk, false, true};
+ghost use Rattle.std.specs.Prelude.{◌≡◌, ◌≢◌, ◌-◌, ◌^◌, IfOk, IfErr, OnOk, false, true, replicate};
 ghost use Rattle.std.specs.Io.KnownBytes.{IsAtEnd};
-ghost use Rattle.scenario.specs.Reasons.{desk};
 ghost use Rattle.scenario.specs.File.{begun};
 ghost use Rattle.play.specs.Pieces.{Fed, FedFrom, Loses};
 ghost use Rattle.play.specs.Output.{Played, Failed};
@@ -12,13 +11,76 @@ ghost use Rattle.play.specs.Output.{Played, Failed};
 use scenario::Reader;
 use std::io;
 use std::io::{Read, Write};
+use std::marker::Model;
 
-// What reading brought: the reader after it, whether more may come, and how a read failed, where one did.
+// Table and marks of the longest file that is accepted, in bytes.
+const TABLE: usize = 52808;
+
+const MARKS: usize = 3301;
+
+// The reader and what is lent to it, seen as a desk.
 #[derive(Drop)]
-struct Turn {
+struct Session {
     reader: Reader,
-    more: bool,
-    failure: Option<io::Error>,
+    table: [u8; TABLE],
+    marks: [u8; MARKS],
+}
+
+impl Model for Session {
+    ghost use Rattle.scenario.specs.Reasons as scenario;
+
+    ghost Value = { scenario.Desk };
+
+    ghost view = { λ a. scenario.desk a.reader a.table a.marks };
+}
+
+impl Session {
+    // Before the first byte.
+    fn new() -> Session
+        ensures { result ≡ begun (replicate TABLE 0) (replicate MARKS 0) }
+    {
+        Session {
+            reader: reading::start(),
+            table: [0; TABLE],
+            marks: [0; MARKS],
+        }
+    }
+
+    // Reads once and feeds what came. Returns how many bytes that were: none at the end of the input.
+    fn read_some<R: Read>(&mut self, input: &mut R) -> io::Result<usize>
+        ensures fed { Fed self.old self.new }
+
+        // Where it is known which bytes the input has: what was fed is what it gave, its end is where it has none left, and it gave
+        // some where more may come.
+        ensures taken { FedFrom (R.remaining input.old) (R.remaining input.new) self.old self.new }
+        ensures end { IfOk result (λ n. n ≡ 0 → IsAtEnd (R.remaining input.new)) }
+        ensures more { IfOk result (λ n. n ≢ 0 → Loses (R.remaining input.old) (R.remaining input.new) 1) }
+    {
+        let mut buffer = [0u8; 65536];
+        let n = input.read(&mut buffer)?;
+        self.reader = reading::feed(self.reader, &buffer[..n], &mut self.table, &mut self.marks);
+        Ok(n)
+    }
+
+    // Reads to the end of the input, and returns whether it was met. The reads are counted only so that the loop is seen to end.
+    #[tactic(auto, using(crate::proofs::Feeding::fed_then))]
+    fn read_all<R: Read>(&mut self, input: &mut R) -> io::Result<bool>
+        ensures fed { Fed self.old self.new }
+
+        // Where it is known which bytes the input has: what was fed is what it gave, its end is where it has none left, and reading
+        // stops before that only where a read fails or after 2^64-1 bytes.
+        ensures taken { FedFrom (R.remaining input.old) (R.remaining input.new) self.old self.new }
+        ensures end { IfOk result (λ ended. ended ≡ true → IsAtEnd (R.remaining input.new)) }
+        ensures more { IfOk result (λ ended. ended ≡ false → Loses (R.remaining input.old) (R.remaining input.new) (2 ^ 64 - 1)) }
+    {
+        for _ in 0..u64::MAX {
+            let n = self.read_some(input)?;
+            if n == 0 {
+                return Ok(true);
+            }
+        }
+        Ok(false)
+    }
 }
 
 // Why the answer was not written, or not to its end.
@@ -26,66 +88,6 @@ struct Turn {
 enum Failure {
     Reading(io::Error),
     Writing(io::Error),
-}
-
-// Reads once and feeds what came.
-fn read_some<R: Read>(input: &mut R, reader: Reader, table: &mut [u8], marks: &mut [u8]) -> Turn
-    ensures fed { Fed (desk reader table.old marks.old) (desk result.reader table.new marks.new) }
-
-    // Where it is known which bytes the input has: what was fed is what it gave, its end is where it has none left, and more may
-    // come only after it gave some.
-    ensures taken { FedFrom (R.remaining input.old) (R.remaining input.new)
-        (desk reader table.old marks.old) (desk result.reader table.new marks.new) }
-    ensures end { result.more ≡ false → IsNone result.failure → IsAtEnd (R.remaining input.new) }
-    ensures more { result.more ≡ true → Loses (R.remaining input.old) (R.remaining input.new) 1 }
-{
-    let mut buffer = [0u8; 65536];
-    match input.read(&mut buffer) {
-        Err(e) => Turn {
-            reader,
-            more: false,
-            failure: Some(e),
-        },
-        Ok(0) => Turn {
-            reader,
-            more: false,
-            failure: None,
-        },
-        Ok(n) => {
-            let next = reading::feed(reader, &buffer[..n], table, marks);
-            Turn {
-                reader: next,
-                more: true,
-                failure: None,
-            }
-        }
-    }
-}
-
-// Reads to the end of the input. The turns are counted only so that the loop is seen to end.
-fn read_all<R: Read>(input: &mut R, table: &mut [u8], marks: &mut [u8]) -> Turn
-    ensures fed { Fed (begun table.old marks.old) (desk result.reader table.new marks.new) }
-
-    // Where it is known which bytes the input has: what was fed is what it gave, its end is where it has none left, and reading
-    // stops before that only where a read fails or after 2^64-1 bytes.
-    ensures taken { FedFrom (R.remaining input.old) (R.remaining input.new)
-        (begun table.old marks.old) (desk result.reader table.new marks.new) }
-    ensures end { result.more ≡ false → IsNone result.failure → IsAtEnd (R.remaining input.new) }
-    ensures more { result.more ≡ true → Loses (R.remaining input.old) (R.remaining input.new) (2 ^ 64 - 1) }
-{
-    let mut reader = reading::start();
-    for _ in 0..u64::MAX {
-        let turn = read_some(input, reader, table, marks);
-        reader = turn.reader;
-        if !turn.more {
-            return turn;
-        }
-    }
-    Turn {
-        reader,
-        more: true,
-        failure: None,
-    }
 }
 
 // Reads the whole input and writes the answer to it.
@@ -98,19 +100,13 @@ fn play<R: Read, W: Write>(input: &mut R, output: &mut W) -> Result<(), Failure>
     // Where a read failed nothing is written, and where a write failed the input had come to its end.
     ensures unread { IfErr result (λ e. Failed e (R.remaining input.new) (W.contents output.old) (W.contents output.new)) }
 {
-    let mut table = [0u8; 52808];
-    let mut marks = [0u8; 3301];
-    let end = read_all(input, &mut table, &mut marks);
-    if let Some(e) = end.failure {
-        return Err(Failure::Reading(e));
-    }
-    if end.more {
+    let mut session = Session::new();
+    if !session.read_all(input).map_err(Failure::Reading)? {
         return Ok(());
     }
-    let mut out = [0u8; 180];
-    let n = answering::finish(end.reader, &table, &mut out);
-    output.write_all(&out[..n]).map_err(Failure::Writing)?;
-    Ok(())
+    let mut out = [0u8; answering::LONGEST];
+    let n = answering::finish(session.reader, &session.table, &mut out);
+    output.write_all(&out[..n]).map_err(Failure::Writing)
 }
 
 fn main(rt: HostRuntime) -> Result<(), Failure> {

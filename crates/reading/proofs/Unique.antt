@@ -8,8 +8,8 @@ use Rattle.reading.proofs.feeding.start.Reads as start
 use Rattle.reading.proofs.feeding.start.Kinds as start-kinds
 use Rattle.reading.proofs.feeding.feed.Reads as feed
 use Rattle.reading.proofs.feeding.feed.Kinds as feed-kinds
-use Rattle.reading.proofs.judging.judge_line.Reads as judge-line
-use Rattle.reading.proofs.judging.judge_line.Kinds as judge-line-kinds
+use Rattle.reading.proofs.judging.Desk.judge_line.Reads as judge-line
+use Rattle.reading.proofs.judging.Desk.judge_line.Kinds as judge-line-kinds
 use Rattle.scenario.specs.Reasons.{Desk}
 
 pub one-start : OneResult 0 start-kinds.ps start-kinds.r start.Post
@@ -28,13 +28,14 @@ one-marks κs a x y s t p q = p.2 ∙ sym q.2
 
 -- ---- one line: what is left of reader, table and marks is one desk
 
-pub one-judged : OneResult 2 judge-line-kinds.ps judge-line-kinds.r judge-line.Post
-one-judged κs a x y s t p q = ap (λ (d : Desk). d.reader) (p ∙ sym q)
+pub one-judged : (κs : Lfts 2) (a : Dens κs judge-line-kinds.ps) (x y : (res_t judge-line-kinds.r κs).Denot) (s t : AtExit (ended_of 2 judge-line-kinds.ps judge-line-kinds.r) κs)
+    → judge-line.Post κs a x s → judge-line.Post κs a y t → s.0.now.reader ≡ t.0.now.reader
+one-judged κs a x y s t p q = ap (λ (d : Desk). d.reader) (p.0 ∙ sym q.0)
 
 pub one-judged-table : (κs : Lfts 2) (a : Dens κs judge-line-kinds.ps) (x y : (res_t judge-line-kinds.r κs).Denot) (s t : AtExit (ended_of 2 judge-line-kinds.ps judge-line-kinds.r) κs)
-    → judge-line.Post κs a x s → judge-line.Post κs a y t → s.1.0.now ≡ t.1.0.now
-one-judged-table κs a x y s t p q = ap (λ (d : Desk). d.table) (p ∙ sym q)
+    → judge-line.Post κs a x s → judge-line.Post κs a y t → s.0.now.table.now ≡ t.0.now.table.now
+one-judged-table κs a x y s t p q = ap (λ (d : Desk). d.table) (p.0 ∙ sym q.0)
 
 pub one-judged-marks : (κs : Lfts 2) (a : Dens κs judge-line-kinds.ps) (x y : (res_t judge-line-kinds.r κs).Denot) (s t : AtExit (ended_of 2 judge-line-kinds.ps judge-line-kinds.r) κs)
-    → judge-line.Post κs a x s → judge-line.Post κs a y t → s.1.1.0.now ≡ t.1.1.0.now
-one-judged-marks κs a x y s t p q = ap (λ (d : Desk). d.marks) (p ∙ sym q)
+    → judge-line.Post κs a x s → judge-line.Post κs a y t → s.0.now.marks.now ≡ t.0.now.marks.now
+one-judged-marks κs a x y s t p q = ap (λ (d : Desk). d.marks) (p.0 ∙ sym q.0)

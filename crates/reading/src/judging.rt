@@ -1,87 +1,137 @@
 // One line judged: what it does to the reader, the lent table and the lent marks.
 ghost use Rattle.std.specs.Prelude.{◌≡◌};
-ghost use Rattle.scenario.specs.Reasons.{desk};
-ghost use Rattle.scenario.specs.Judging.{one_more, after, opened, told, accepted, judged};
+ghost use Rattle.rules.specs.Numbers.{number_of, RefusedOr};
+ghost use Rattle.scenario.specs.Hex.{frame_of};
+ghost use Rattle.scenario.specs.Frames.{line_in};
+ghost use Rattle.scenario.specs.Reasons.{line_refusal};
+ghost use Rattle.scenario.specs.Judging.{one_more, after, closed, refused_with, judged};
 ghost use Rattle.scenario.specs.Feeding.{line_held};
-ghost use Rattle.reading.specs.Steps.{Tellable, Acceptable};
 
 use conversions::cell_of_route;
-use frames::{clear, frame_of, route_in, set_mark, settings_in, word_told};
-use reasons::line_refusal;
-use rules::Settings;
-use scenario::Reader;
-use words::{put_word, wide};
+use frames::{clear, set_mark};
+use reasons::line_judged;
+use rules::{Refusal, Route, Settings};
+use scenario::{Line, Reader, Stage};
+use words::put_word;
+
+// A reader with what is lent to it.
+#[derive(Drop)]
+pub struct Desk<'a> {
+    pub reader: Reader,
+    pub table: &'a mut [u8],
+    pub marks: &'a mut [u8],
+}
 
 // One more, in a word.
 #[tactic(auto, unfolding(scenario::specs::Judging::one_more))]
 fn one_more(k: u16) -> u16
     ensures { result ≡ one_more k }
 {
-    if k < 65535 { k + 1 } else { k }
+    k.saturating_add(1)
 }
 
 // A reader after a line, with nothing held.
 #[tactic(auto, unfolding(scenario::specs::Judging::after))]
-fn after_line(r: Reader, stage: u8, s: Settings, given: u16, refusal: u8) -> Reader
-    ensures { result ≡ after r stage s given refusal }
+fn after_line(r: Reader) -> Reader
+    ensures { result ≡ after r r.stage r.settings r.given r.refusal }
 {
     Reader {
-        stage,
-        settings: s,
-        given,
         lines: one_more(r.lines),
-        refusal,
-        held: [0u8; 19],
+        held: [0; 19],
         count: 0,
+        ..r
     }
 }
 
-// An accepted `01` line sets every byte of table and marks to 0.
-fn open(r: Reader, frame: [u8; 9], table: &mut [u8], marks: &mut [u8]) -> Reader
-    ensures { desk result table.new marks.new ≡ opened (desk r table.old marks.old) frame }
-{
-    clear(table);
-    clear(marks);
-    after_line(r, 1, settings_in(frame), 0, 0)
-}
+impl Desk<'_> {
+    ghost use Rattle.scenario.specs.declared.Line.TheVariants.{Opening};
+    ghost use Rattle.reading.specs.Steps.{at, Moved, Tellable, Acceptable, told_by, done};
 
-// An accepted `02` line writes its word into its cell and sets that cell's mark.
-fn tell(r: Reader, frame: [u8; 9], table: &mut [u8], marks: &mut [u8]) -> Reader
-    requires { Tellable (desk r table.old marks.old) frame }
-    ensures { desk result table.new marks.new ≡ told (desk r table.old marks.old) frame }
-{
-    let s = r.settings;
-    let found = cell_of_route(s.n, s.m, s.sender, route_in(frame));
-    let cell = found.cell as usize;
-    put_word(table, cell, word_told(frame));
-    set_mark(marks, cell);
-    after_line(r, 1, s, one_more(r.given), 0)
-}
+    // An accepted `01` line sets every byte of table and marks to 0.
+    #[tactic(auto, unfolding(scenario::specs::Judging::after))]
+    fn open(&mut self, s: Settings)
+        ensures { Moved self.old self.new (done (at self.old) (Opening s)) }
+    {
+        clear(self.table);
+        clear(self.marks);
+        self.reader = Reader {
+            stage: Stage::Opened as u8,
+            settings: s,
+            given: 0,
+            refusal: 0,
+            ..after_line(self.reader)
+        };
+    }
 
-// What an accepted line does, by its kind; an `03` line changes neither table nor marks.
-fn accept(r: Reader, frame: [u8; 9], table: &mut [u8], marks: &mut [u8]) -> Reader
-    requires { Acceptable (desk r table.old marks.old) frame }
-    ensures { desk result table.new marks.new ≡ accepted (desk r table.old marks.old) frame }
-{
-    if frame[0] == 1 {
-        return open(r, frame, table, marks);
+    // An accepted `02` line writes its word into its cell and sets that cell's mark.
+    #[tactic(auto, unfolding(scenario::specs::Judging::after))]
+    fn tell(&mut self, route: Route, word: u16)
+        requires { Tellable (at self.old) route }
+        ensures { Moved self.old self.new (told_by (at self.old) route word) }
+    {
+        let r = self.reader;
+        let s = r.settings;
+        let cell = cell_of_route(s.n, s.m, s.sender, route).unwrap() as usize;
+        put_word(self.table, cell, word);
+        set_mark(self.marks, cell);
+        self.reader = Reader {
+            stage: Stage::Opened as u8,
+            given: one_more(r.given),
+            refusal: 0,
+            ..after_line(r)
+        };
     }
-    if frame[0] == 2 {
-        return tell(r, frame, table, marks);
-    }
-    after_line(r, 2, r.settings, r.given, 0)
-}
 
-// The line held, judged. A refused one leaves its number with the reader and changes nothing else.
-pub fn judge_line(r: Reader, table: &mut [u8], marks: &mut [u8]) -> Reader
-    requires { r.refusal ≡ 0 }
-    ensures { desk result table.new marks.new ≡ judged (desk r table.old marks.old) (line_held r) }
-{
-    let k = line_refusal(r, table, marks);
-    if k != 0 {
-        return after_line(r, r.stage, r.settings, r.given, k);
+    // An accepted `03` line changes neither table nor marks.
+    #[tactic(auto, unfolding(scenario::specs::Judging::after, scenario::specs::Judging::closed))]
+    fn close(&mut self)
+        ensures { Moved self.old self.new (closed (at self.old)) }
+    {
+        self.reader = Reader {
+            stage: Stage::Closed as u8,
+            refusal: 0,
+            ..after_line(self.reader)
+        };
     }
-    let held = r.held;
-    let frame = frame_of(held, wide(r.count));
-    accept(r, frame, table, marks)
+
+    // What an accepted line does.
+    fn accept(&mut self, line: Line)
+        requires { Acceptable (at self.old) line }
+        ensures { Moved self.old self.new (done (at self.old) line) }
+    {
+        match line {
+            Line::Opening(s) => self.open(s),
+            Line::Telling { route, word } => self.tell(route, word),
+            Line::Closing(_) => self.close(),
+        }
+    }
+
+    // What the line held says, unless it is refused. A function of its own, so that table and marks are lent to be read.
+    fn line_judged(&self) -> Result<Line, Refusal>
+        ensures { RefusedOr (line_refusal (at self.now) (line_held self.now.reader)) (λ l. l ≡ line_in (frame_of (line_held self.now.reader))) result }
+    {
+        line_judged(self.reader, self.table, self.marks)
+    }
+
+    // A refused line leaves its number with the reader and changes nothing else.
+    #[tactic(auto, unfolding(scenario::specs::Judging::after, scenario::specs::Judging::refused_with))]
+    fn refuse(&mut self, e: Refusal)
+        ensures { Moved self.old self.new (refused_with (at self.old) (number_of e)) }
+    {
+        self.reader = Reader {
+            refusal: e.number(),
+            ..after_line(self.reader)
+        };
+    }
+
+    // The line held, judged.
+    pub fn judge_line(&mut self)
+        requires { self.old.reader.refusal ≡ 0 }
+        ensures { Moved self.old self.new (judged (at self.old) (line_held self.old.reader)) }
+    {
+        match self.line_judged() {
+            Err(e) => self.refuse(e),
+            Ok(line) => self.accept(line),
+        }
+    }
 }

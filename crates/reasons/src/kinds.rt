@@ -1,80 +1,76 @@
-// The refusals that belong to each kind of line: what an `01`, an `02` and an `03` line must hold, and then what must be lent.
-ghost use Rattle.std.specs.Prelude.{◌≡◌, false};
+// The refusals that belong to what each kind of line says: an `01`, an `02` and an `03` line, and then what must be lent.
+ghost use Rattle.std.specs.Prelude.{◌≡◌, length};
+ghost use Rattle.rules.specs.Numbers.{RefusedOr};
 ghost use Rattle.rules.specs.Refusals.{settings_refusal};
-ghost use Rattle.scenario.specs.Frames.{kind_of};
-ghost use Rattle.scenario.specs.Reasons.{desk, stage_of, out_of_place};
-ghost use Rattle.reasons.specs.Steps.{lent_refusal, open_refusal, tell_refusal, close_refusal, kind_refusal};
+ghost use Rattle.scenario.specs.Reasons.{desk};
+ghost use Rattle.reasons.specs.Steps.{lent_refusal, open_refusal, tell_refusal, close_refusal, said_refusal, Ready};
 
 use conversions::cell_of_route;
-use frames::{count_in, is_marked, route_in, settings_in};
-use rules::Settings;
-use scenario::Reader;
-use settings::{message_count, settings_refusal};
+use frames::is_marked;
+use rules::{Refusal, Route, Settings};
+use scenario::{Line, Reader};
+use settings::{Judged, message_count};
 
-// 8 and 10: so many bytes of table and marks are too few for the settings.
-fn lent_refusal(s: Settings, table: usize, marks: usize) -> u8
+// `WrongTable` and `FewMarks`: so many bytes of table and marks are too few for the settings.
+// Kept: that the settings are accepted is asked here and of two callers, since a type that holds it would have to be made from a reader's
+// settings in each of them.
+fn lent_judged(s: Settings, table: usize, marks: usize) -> Result<(), Refusal>
     requires { settings_refusal s ≡ 0 }
-    ensures { result ≡ lent_refusal s table marks }
+    ensures { RefusedOr (lent_refusal s table marks) (λ _. Unit {0}) result }
 {
     let cells = message_count(s.n, s.m);
     if table < 2 * cells {
-        return 8;
+        return Err(Refusal::WrongTable);
     }
-    if marks < (cells + 7) / 8 {
-        return 10;
+    if marks < cells.div_ceil(8) {
+        return Err(Refusal::FewMarks);
     }
-    0
+    Ok(())
 }
 
-// An `01` line's own refusals.
-fn open_refusal(frame: [u8; 9], table: &[u8], marks: &[u8]) -> u8
-    ensures { result ≡ open_refusal frame table.now marks.now }
+// An `01` line with these settings.
+fn open_judged(s: Settings, table: usize, marks: usize) -> Result<(), Refusal>
+    ensures { RefusedOr (open_refusal s table marks) (λ _. Unit {0}) result }
 {
-    let s = settings_in(frame);
-    let k = settings_refusal(s);
-    if k != 0 {
-        return k as u8;
-    }
-    lent_refusal(s, table.len(), marks.len())
+    Judged::try_from(s)?;
+    lent_judged(s, table, marks)
 }
 
-// An `02` line's. The settings are accepted, so a route has a cell unless it is no route.
-fn tell_refusal(r: Reader, frame: [u8; 9], table: &[u8], marks: &[u8]) -> u8
+// An `02` line with this route. The settings are accepted, so a route has a cell unless it is no route.
+fn tell_judged(r: Reader, route: Route, table: &[u8], marks: &[u8]) -> Result<(), Refusal>
     requires { settings_refusal r.settings ≡ 0 }
-    ensures { result ≡ tell_refusal (desk r table.now marks.now) frame }
+    ensures { RefusedOr (tell_refusal (desk r table.now marks.now) route) (λ _. Unit {0}) result }
 {
     let s = r.settings;
-    let found = cell_of_route(s.n, s.m, s.sender, route_in(frame));
-    if found.refusal != 0 {
-        return 23;
+    let Ok(cell) = cell_of_route(s.n, s.m, s.sender, route) else {
+        return Err(Refusal::Routeless);
+    };
+    if is_marked(marks, cell as usize) {
+        return Err(Refusal::GivenBefore);
     }
-    if is_marked(marks, found.cell as usize) {
-        return 24;
-    }
-    lent_refusal(s, table.len(), marks.len())
+    lent_judged(s, table.len(), marks.len())
 }
 
-// An `03` line's.
-fn close_refusal(r: Reader, frame: [u8; 9], table: &[u8], marks: &[u8]) -> u8
+// An `03` line with this count.
+#[tactic(auto, unfolding(rules::specs::Refusals::first, scenario::specs::Reasons::lent_reasons))]
+fn close_judged(r: Reader, count: u16, table: &[u8], marks: &[u8]) -> Result<(), Refusal>
     requires { settings_refusal r.settings ≡ 0 }
-    ensures { result ≡ close_refusal (desk r table.now marks.now) frame }
+    ensures { RefusedOr (close_refusal (desk r table.now marks.now) count) (λ _. Unit {0}) result }
 {
-    if count_in(frame) != r.given {
-        return 25;
+    if count != r.given {
+        return Err(Refusal::WrongCount);
     }
-    lent_refusal(r.settings, table.len(), marks.len())
+    lent_judged(r.settings, table.len(), marks.len())
 }
 
-// Those of a line that is in its place, by its kind.
-pub fn kind_refusal(r: Reader, frame: [u8; 9], table: &[u8], marks: &[u8]) -> u8
-    requires { out_of_place (stage_of r) (kind_of frame) ≡ false }
-    ensures { result ≡ kind_refusal (desk r table.now marks.now) frame }
+// A line that is in its place, by what it says.
+pub fn said_judged(r: Reader, line: Line, table: &[u8], marks: &[u8]) -> Result<(), Refusal>
+    requires { Ready r line }
+    ensures { RefusedOr (said_refusal (desk r table.now marks.now) line) (λ _. Unit {0}) result }
 {
-    if frame[0] == 1 {
-        return open_refusal(frame, table, marks);
+    match line {
+        Line::Opening(s) => open_judged(s, table.len(), marks.len()),
+        Line::Telling { route, .. } => tell_judged(r, route, table, marks),
+        Line::Closing(count) => close_judged(r, count, table, marks),
     }
-    if frame[0] == 2 {
-        return tell_refusal(r, frame, table, marks);
-    }
-    close_refusal(r, frame, table, marks)
 }

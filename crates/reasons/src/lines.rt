@@ -1,58 +1,65 @@
-// The refusals of a whole line: is it a frame, in its place and of its kind's size? Then its kind decides.
+// The refusals of a whole line: is it a frame, in its place and of its kind's size? Then what it says decides.
 ghost use Rattle.std.specs.Prelude.{◌≡◌};
-ghost use Rattle.scenario.specs.Reasons.{desk, stage_of, out_of_place, line_refusal};
+ghost use Rattle.rules.specs.Numbers.{RefusedOr};
+ghost use Rattle.scenario.specs.Hex.{frame_of};
+ghost use Rattle.scenario.specs.Frames.{line_in};
+ghost use Rattle.scenario.specs.Reasons.{desk, stage_number, stage_of, out_of_place, line_refusal};
 ghost use Rattle.scenario.specs.Feeding.{line_held};
 
-use crate::kinds::kind_refusal;
-use frames::{frame_of, no_frame, size_of};
-use scenario::Reader;
-use settings::settings_refusal;
-use words::wide;
+use crate::kinds::said_judged;
+use frames::{frame_of, line_in, no_frame, size_of};
+use rules::Refusal;
+use scenario::{Line, Reader, Stage};
+use settings::Judged;
 
 // The stage that a reader has reached. One with settings that would be refused, or at no known stage, has met no `01` line.
-pub fn stage_of(r: Reader) -> u8
-    ensures { result ≡ stage_of r }
+pub fn stage_of(r: Reader) -> Stage
+    ensures { stage_number result ≡ stage_of r }
 {
-    if settings_refusal(r.settings) != 0 {
-        return 0;
+    if Judged::try_from(r.settings).is_err() {
+        return Stage::Before;
     }
-    if r.stage >= 3 {
-        return 0;
+    match r.stage {
+        1 => Stage::Opened,
+        2 => Stage::Closed,
+        _ => Stage::Before,
     }
-    r.stage
 }
 
-// 21: an unknown kind or one out of place.
-fn out_of_place(stage: u8, kind: u8) -> bool
-    ensures { result ≡ out_of_place stage kind }
+// `OutOfPlace`: an unknown kind or one out of place.
+// Kept: a kind is the byte that a file has, as in `frames`.
+#[tactic(auto, unfolding(scenario::specs::Reasons::out_of_place, scenario::specs::Reasons::in_place))]
+fn out_of_place(stage: Stage, kind: u8) -> bool
+    ensures { result ≡ out_of_place (stage_number stage) kind }
 {
-    if stage == 0 {
-        return kind != 1;
-    }
-    if stage == 1 {
-        if kind == 2 {
-            return false;
-        }
-        return kind != 3;
-    }
-    true
+    !matches!((stage, kind), (Stage::Before, 1) | (Stage::Opened, 2 | 3))
 }
 
-// All of a line's refusals; 0 where it is accepted.
-pub fn line_refusal(r: Reader, table: &[u8], marks: &[u8]) -> u8
-    ensures { result ≡ line_refusal (desk r table.now marks.now) (line_held r) }
+// The bytes of the line begun. A forged reader may count more of them than it holds.
+fn line_held(r: &Reader) -> &[u8]
+    ensures { result.now ≡ line_held r.now }
 {
-    let held = r.held;
-    let count = wide(r.count);
-    if no_frame(held, count) {
-        return 20;
+    &r.held[..usize::from(r.count).min(19)]
+}
+
+// What the line begun says, unless it is refused.
+// Kept: reader, table and marks apart, here and in `kinds`. The one struct that holds them lends table and marks to be written; one that
+// lends them to be read would be made in this function alone.
+pub fn line_judged(r: Reader, table: &[u8], marks: &[u8]) -> Result<Line, Refusal>
+    ensures { RefusedOr (line_refusal (desk r table.now marks.now) (line_held r)) (λ l. l ≡ line_in (frame_of (line_held r))) result }
+{
+    let held = line_held(&r);
+    if no_frame(held) {
+        return Err(Refusal::NoFrame);
     }
-    let frame = frame_of(held, count);
+    let frame = frame_of(held);
     if out_of_place(stage_of(r), frame[0]) {
-        return 21;
+        return Err(Refusal::OutOfPlace);
     }
-    if count / 2 != size_of(frame) {
-        return 22;
+    if held.len() / 2 != size_of(frame) {
+        return Err(Refusal::WrongSize);
     }
-    kind_refusal(r, frame, table, marks)
+    let line = line_in(frame);
+    said_judged(r, line, table, marks)?;
+    Ok(line)
 }

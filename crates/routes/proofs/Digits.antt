@@ -1,15 +1,16 @@
 -- Digits and ranks of a row, number by number, as the code builds them.
 use mathlib.Core.Path.{◌≡◌, refl, ap}
-use mathlib.Core.Bool.{true, false}
+use mathlib.Core.Bool.{Bool, true, false}
 use mathlib.Core.List.{List, [], ◌∷◌}
 use Prim.Native.Nat.{ℕ, zero, suc, ◌+◌, ◌*◌, ◌-◌, ◌≤◌, ◌<◌}
 use native.Mathlib.Omega.{arith}
 use native.Mathlib.Numerals.{add-one}
-use lib.ListN.{get_or}
+use lib.ListN.{length, get_or, take}
+use lib.Seq.{length-take-le, get_or-take}
 use lib.Dec.{eqb, ltb, leb}
-use borrow.Author.Tests.{eqb-true, eq-eqb, ltb-true, ltb-false, leb-true, leb-false, lt-ltb, le-ltb}
+use borrow.Author.Tests.{eqb-true, eq-eqb, ltb-true, ltb-false, leb-true, leb-false}
 use mir.Syntax.{w64}
-use mir.Val.{Fits}
+use mir.Val.{Fits, bool_byte}
 use Rattle.rules.specs.Lists.{bit, count, up_to}
 use Rattle.rules.specs.Routes.{back, held, free, is_path}
 use Rattle.rules.specs.Cells.{routes_of, cells_before, digit, rank, cell}
@@ -18,7 +19,7 @@ use Rattle.rules.proofs.Counting.{by-test, once, count-split, count-up_to}
 use Rattle.rules.proofs.Receivers.{free_other, free-self, free-swap, receiver-free, path-head, path-tail}
 use Rattle.rules.proofs.Numbering.{count-more, count_past, rank_lt}
 use Rattle.rules.proofs.Rows.{length_back}
-use Rattle.routes.specs.Needs.{Numbered, RankedTo, Apart, DigitTo}
+use Rattle.routes.specs.Needs.{Numbered, RankedTo, Apart}
 use Rattle.routes.proofs.Sizes.{routes-most}
 
 -- ---- a digit: one used node more
@@ -50,15 +51,14 @@ unfolding count up_to free
 free_all zero = refl
 free_all (suc a) = omega (arith, count-up_to (free []) a, free_all a)
 
--- the sender is below a, and uses one of the nodes below it
-pub first-used : (sender a : ℕ) → sender < a → a - 1 ≡ digit sender [] a
-unfolding digit free
-first-used sender a h = omega (arith, free_all a, rw (lt-ltb sender a h) at (free-less sender [] a refl))
+bool-bit : (b : Bool) → bool_byte b ≡ bit b
+bool-bit true = refl
+bool-bit false = refl
 
--- it is not
-pub first-free : (sender a : ℕ) → a ≤ sender → a ≡ digit sender [] a
+-- the sender uses one of the nodes below a, if it is one
+pub digit-first : (sender a d w : ℕ) → d ≡ a → w ≡ bool_byte (ltb sender a) → d - w ≡ digit sender [] a
 unfolding digit free
-first-free sender a h = omega (arith, free_all a, rw (le-ltb sender a h) at (free-less sender [] a refl))
+digit-first sender a d w ed ew = omega (arith, free_all a, bool-bit (ltb sender a), free-less sender [] a refl)
 
 -- the first numbers of a path are a path
 pub path-first : (n sender : ℕ) (row : List ℕ) (j k : ℕ) → j ≤ k → is_path n sender (back row k) ≡ true → is_path n sender (back row j) ≡ true
@@ -80,25 +80,21 @@ digit-less sender r k a p =
     let swap : count (free (sender ∷ y ∷ rest)) (up_to a) ≡ count (free (y ∷ sender ∷ rest)) (up_to a) = λ i. count (λ x. free-swap sender y rest x i) (up_to a) in
     rw (add-one, swap) (free-less y (sender ∷ rest) a (receiver-free p.nodes sender rest y (path-head p.nodes sender rest y path)))
 
-module _ (sender : ℕ) (r : R.Route) (k a d : ℕ) (p : DigitTo sender r k a d) where
-  -- a number below a takes one of the free ones ..
-  pub one_less : get_or r.nodes k 0 < a → 1 ≤ d
-  one_less h = omega (arith, p.beside, rw (lt-ltb (get_or r.nodes k 0) a h) at (digit-less sender r k a p.apart))
+-- beside one of the first k numbers of a row more, one fewer is free if that number is below a
+module _ (sender : ℕ) (r : R.Route) (k j a d w : ℕ) (p : Apart sender r k) (whole : length r.nodes ≡ 4) (within : j < length (take k r.nodes))
+    (so_far : d ≡ digit sender (back r.nodes j) a) (one : w ≡ bool_byte (ltb (get_or (take k r.nodes) j 0) a)) where
+  used-or-not : digit sender (back r.nodes (j + 1)) a + w ≡ d
+  used-or-not =
+      let before : j < k = omega (arith, p.few, length-take-le k r.nodes (omega (arith, p.few))) in
+      let up_to_it : Apart sender r (j + 1) = record { few = omega (arith, p.few); nodes = p.nodes; path = path-first p.nodes sender r.nodes (j + 1) k (omega arith) p.path } in
+      let its : w ≡ bool_byte (ltb (get_or r.nodes j 0) a) = rw (get_or-take k r.nodes j 0 before) at one in
+      omega (arith, its, bool-bit (ltb (get_or r.nodes j 0) a), digit-less sender r j a up_to_it)
 
-  pub next-used : get_or r.nodes k 0 < a → d - 1 ≡ digit sender (back r.nodes (k + 1)) a
-  next-used h = omega (arith, p.beside, rw (lt-ltb (get_or r.nodes k 0) a h) at (digit-less sender r k a p.apart))
+  pub one_less : w ≤ d
+  one_less = omega (arith, used-or-not)
 
-  -- .. and another does not
-  pub next-free : a ≤ get_or r.nodes k 0 → d ≡ digit sender (back r.nodes (k + 1)) a
-  next-free h = omega (arith, p.beside, rw (le-ltb (get_or r.nodes k 0) a h) at (digit-less sender r k a p.apart))
-
--- what the next step asks
-pub digit-to : (sender : ℕ) (r : R.Route) (k j a d : ℕ) → Apart sender r k → j < k → d ≡ digit sender (back r.nodes j) a → DigitTo sender r j a d
-digit-to sender r k j a d p h e =
-    record {
-      apart = record { few = omega (arith, p.few); nodes = p.nodes; path = path-first p.nodes sender r.nodes (j + 1) k (omega arith) p.path };
-      beside = e;
-    }
+  pub digit-next : d - w ≡ digit sender (back r.nodes (j + 1)) a
+  digit-next = omega (arith, used-or-not)
 
 -- ---- a rank: one number more
 

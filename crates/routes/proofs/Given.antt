@@ -1,104 +1,85 @@
 -- A given row: who may receive on top of its first numbers, and whether it is a route.
-use mathlib.Core.Path.{◌≡◌, refl, sym, ◌∙◌}
-use mathlib.Core.Bool.{Bool, true, false, not, and-false, true≢false}
-use mathlib.Core.List.{List}
+use mathlib.Core.Path.{◌≡◌, refl, sym, ap, ◌∙◌}
+use mathlib.Core.Bool.{Bool, true, false, not, ◌&&◌, and-false}
+use mathlib.Core.List.{List, [], ◌∷◌, ◌++◌}
 use Prim.Native.Nat.{ℕ, zero, suc, ◌+◌, ◌≤◌, ◌<◌}
 use native.Mathlib.Omega.{arith}
-use native.Mathlib.Decide.{ℕ_discrete}
-use native.Mathlib.Numerals.{add-one}
-use lib.ListN.{get_or}
-use borrow.Author.Tests.{eq-eqb, le-ltb, not-true, not-false}
+use lib.ListN.{length, get_or, take}
+use lib.Dec.{eqb, ltb}
+use borrow.Author.Tests.{lt-ltb, le-ltb, le-leb, lt-leb, eq-eqb, ne_eqb, eqb-true, eqb-false}
+use Rattle.std.specs.List.{list_all, range_with_len}
+use Rattle.std.proofs.Math.Seq.{take-suc}
+use Rattle.std.proofs.lemmas.List.Folds.{list_all-append}
 use Rattle.rules.specs.Routes.{back, held, free, receiver, is_path, is_route}
 use Rattle.rules.specs.declared.Route as R
 use Rattle.rules.proofs.Counting.{by-test}
-use Rattle.rules.proofs.Receivers.{free-cons, free-self, is-receiver, path-next, path-head}
-use Rattle.rules.proofs.Numbering.{route-is, is-route}
+use Rattle.rules.proofs.Receivers.{free-self}
 use Rattle.rules.proofs.Rows.{length_back}
-use Rattle.routes.proofs.Digits.{path-first}
 
 -- ---- who may receive
 
--- x is none of the first i of k numbers
-pub record Unused (row : List ℕ) (k x i : ℕ) : Type 0 where
-  pub passed : i ≤ k
-  pub unused : free (back row i) x ≡ true
+eqb-sym : (x y : ℕ) → eqb x y ≡ eqb y x
+eqb-sym x y =
+    by-test (eqb y x)
+    (λ (e : eqb y x ≡ true). rw (e, eqb-true y x e) (eq-eqb x x refl))
+    (λ (e : eqb y x ≡ false). rw e (ne_eqb x y (λ h. eqb-false y x e (sym h))))
 
-module _ (row : List ℕ) (x : ℕ) where
-  -- one of the first k numbers is not free beside them
-  used : (k i : ℕ) → i < k → get_or row i 0 ≡ x → free (back row k) x ≡ false
-  unfolding back free
-  used zero i h e = absurd (omega arith)
-  used (suc k) i h e = go (ℕ_discrete i k) (used k i)
-    where
-      go : Dec (i ≡ k) → (i < k → get_or row i 0 ≡ x → free (back row k) x ≡ false) → free (back row (suc k)) x ≡ false
-      go (yes p) rec = rw (eq-eqb x (get_or row k 0) (sym e ∙ rw p))
-      go (no p) rec = rw (rec (omega arith) e, and-false)
+exchanged : (a b : Bool) → (a && (b && true)) ≡ (b && a)
+exchanged true true = refl
+exchanged true false = refl
+exchanged false true = refl
+exchanged false false = refl
 
-  pub unused-none : (k : ℕ) → Unused row k x 0
-  unfolding back free
-  unused-none k = record { passed = omega arith; unused = refl }
-
-  pub unused-more : (k i : ℕ) → Unused row k x i → i < k → (get_or row i 0 ≡ x → ⊥) → Unused row k x (i + 1)
-  unfolding back
-  unused-more k i so_far h n =
-      record { passed = omega arith; unused = rw add-one (free-cons (get_or row i 0) (back row i) x (λ e. n (sym e)) so_far.unused) }
+-- none of the first k numbers is x exactly where x is free beside them
+none-used : (row : List ℕ) (x k : ℕ) → k ≤ length row → list_all (λ y. not (eqb y x)) (take k row) ≡ free (back row k) x
+unfolding back free
+none-used row x zero h = refl
+none-used row x (suc k) h =
+    let y = get_or row k 0 in
+    ap (λ xs. list_all (λ y. not (eqb y x)) xs) (take-suc row k 0 (omega arith)) ∙ list_all-append (λ y. not (eqb y x)) (take k row) (y ∷ [])
+    ∙ rw (none-used row x k (omega arith), eqb-sym y x) (exchanged (free (back row k) x) (not (eqb x y)))
 
 module _ (n sender : ℕ) (row : List ℕ) (k x : ℕ) where
-  pub too-high : n ≤ x → false ≡ receiver n sender (back row k) x
+  pub too-high : (b : Bool) → n ≤ x → b ≡ ltb x n → b ≡ receiver n sender (back row k) x
   unfolding receiver
-  too-high h = rw (le-ltb x n h)
+  too-high b h e = e ∙ rw (le-ltb x n h)
 
-  pub is-sender : x ≡ sender → false ≡ receiver n sender (back row k) x
+  pub is-sender : (b : Bool) → x ≡ sender → b ≡ not (eqb x sender) → b ≡ receiver n sender (back row k) x
   unfolding receiver
-  is-sender e = rw (e, free-self, and-false)
+  is-sender b h e = e ∙ rw (h, eq-eqb sender sender refl, free-self, and-false)
 
-  pub is-used : (i : ℕ) → i < k → get_or row i 0 ≡ x → false ≡ receiver n sender (back row k) x
+  pub may-receive : (b : Bool) → x < n → (x ≡ sender → ⊥) → k ≤ length row → b ≡ list_all (λ y. not (eqb y x)) (take k row) → b ≡ receiver n sender (back row k) x
   unfolding receiver free
-  is-used i h e = rw (used row x k i h e, and-false, and-false)
-
-  pub may-receive : (i : ℕ) → x < n → (x ≡ sender → ⊥) → Unused row k x i → k ≤ i → true ≡ receiver n sender (back row k) x
-  may-receive i h s so_far end =
-      let e : i ≡ k = omega (arith, so_far.passed) in
-      sym (is-receiver n sender (back row k) x h (free-cons sender (back row k) x s (rw e at so_far.unused)))
+  may-receive b h s whole e = e ∙ none-used row x k whole ∙ rw (lt-ltb x n h, ne_eqb x sender s)
 
 -- ---- whether a row is a route
 
--- its first k numbers are a path
-pub record Passable (n sender : ℕ) (r : R.Route) (k : ℕ) : Type 0 where
-  pub passed : k ≤ r.len
-  pub path : is_path n sender (back r.nodes k) ≡ true
+-- numbers that count up, with the last of them last
+pub range-more : (a n : ℕ) → range_with_len a (suc n) ≡ range_with_len a n ++ ((a + n) ∷ [])
+range-more a zero = let e : a + 0 ≡ a = omega arith in rw e
+range-more a (suc n) = let e : a + 1 + n ≡ a + suc n = omega arith in ap (λ xs. a ∷ xs) (rw e at (range-more (a + 1) n))
+
+-- each number of a row may receive on top of those before it
+abbrev pub mays : ℕ → ℕ → List ℕ → ℕ → Bool
+mays n sender row k = receiver n sender (back row k) (get_or row k 0)
+
+all-path : (n sender : ℕ) (row : List ℕ) (k : ℕ) → list_all (mays n sender row) (range_with_len 0 k) ≡ is_path n sender (back row k)
+unfolding is_path back
+all-path n sender row zero = refl
+all-path n sender row (suc k) =
+    let e : 0 + k ≡ k = omega arith in
+    ap (λ xs. list_all (mays n sender row) xs) (range-more 0 k) ∙ list_all-append (mays n sender row) (range_with_len 0 k) ((0 + k) ∷ [])
+    ∙ rw (e, all-path n sender row k) (exchanged (is_path n sender (back row k)) (mays n sender row k))
 
 module _ (n m sender : ℕ) (r : R.Route) where
-  not-route : (is_route n m sender (held r) ≡ true → ⊥) → false ≡ is_route n m sender (held r)
-  not-route h = by-test (is_route n m sender (held r))
-      (λ (e : is_route n m sender (held r) ≡ true). absurd (h e))
-      (λ (e : is_route n m sender (held r) ≡ false). sym e)
-
   pub route-none : r.len ≡ 0 → false ≡ is_route n m sender (held r)
-  route-none e = not-route (λ h. omega (arith, (route-is n m sender (held r) h).some, length_back r.nodes r.len))
+  unfolding is_route back
+  route-none e = rw e
 
   pub route-long : m + 1 < r.len → false ≡ is_route n m sender (held r)
-  route-long b = not-route (λ h. omega (arith, (route-is n m sender (held r) h).short, length_back r.nodes r.len))
+  unfolding is_route
+  route-long h = rw (length_back, lt-leb r.len (m + 1) h, and-false)
 
-  pub path-none : Passable n sender r 0
-  unfolding is_path back
-  path-none = record { passed = omega arith; path = refl }
-
-  module _ (k : ℕ) (b : Bool) (found : b ≡ receiver n sender (back r.nodes k) (get_or r.nodes k 0)) where
-    pub path-broken : k < r.len → not b ≡ true → false ≡ is_route n m sender (held r)
-    unfolding back
-    path-broken h e =
-        not-route (λ t.
-        let whole = path-first n sender r.nodes (suc k) r.len h (route-is n m sender (held r) t).path in
-        true≢false (sym (path-head n sender (back r.nodes k) (get_or r.nodes k 0) whole) ∙ sym found ∙ not-true b e))
-
-    pub path-more : Passable n sender r k → k < r.len → not b ≡ false → Passable n sender r (k + 1)
-    unfolding back
-    path-more so_far h e =
-        record { passed = omega arith; path = rw add-one (path-next n sender (back r.nodes k) (get_or r.nodes k 0) (sym found ∙ not-false b e) so_far.path) }
-
-  pub path-whole : (k : ℕ) → (r.len ≡ 0 → ⊥) → r.len ≤ m + 1 → Passable n sender r k → r.len ≤ k → true ≡ is_route n m sender (held r)
-  path-whole k some short so_far end =
-      let e : k ≡ r.len = omega (arith, so_far.passed) in
-      let l = length_back r.nodes r.len in
-      sym (is-route n m sender (held r) (record { some = omega arith; short = omega arith; path = rw e at so_far.path }))
+  pub path-whole : (b : Bool) → (r.len ≡ 0 → ⊥) → r.len ≤ m + 1 → b ≡ list_all (mays n sender r.nodes) (range_with_len 0 r.len) → b ≡ is_route n m sender (held r)
+  unfolding is_route
+  path-whole b some short e = e ∙ all-path n sender r.nodes r.len ∙ rw (length_back, le-leb 1 r.len (omega arith), le-leb r.len (m + 1) short)

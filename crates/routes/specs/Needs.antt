@@ -1,7 +1,7 @@
 -- What the functions of this crate ask of their callers.
-use Rattle.std.specs.Prelude.{ℕ, ◌+◌, ◌≤◌, ◌<◌, ◌≡◌, true}
+use Rattle.std.specs.Prelude.{ℕ, ◌≤◌, ◌<◌, ◌≡◌, true}
 use Rattle.rules.specs.Routes.{back, held, is_path}
-use Rattle.rules.specs.Cells.{rank, digit}
+use Rattle.rules.specs.Cells.{rank}
 use Rattle.rules.specs.declared.Route as R
 
 -- a route that takes one more relay
@@ -40,8 +40,3 @@ pub record Apart (sender : ℕ) (r : R.Route) (k : ℕ) : Type 0 where
   pub few : k ≤ 3
   pub nodes : ℕ
   pub path : is_path nodes sender (back r.nodes k) ≡ true
-
--- a digit beside the first k of them
-pub record DigitTo (sender : ℕ) (r : R.Route) (k a d : ℕ) : Type 0 where
-  pub apart : Apart sender r (k + 1)
-  pub beside : d ≡ digit sender (back r.nodes k) a

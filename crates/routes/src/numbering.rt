@@ -1,10 +1,11 @@
-// The numbering of routes. A rank is built number by number, and a digit used node by used node, each by one step that
-// serves every place; the steps are called with constant places, by cases on the length, since the exchange numbers a route
-// for every word that a faulty node tells.
-ghost use Rattle.std.specs.Prelude.{◌≡◌, [], ◌+◌};
+// The numbering of routes. A rank is built number by number, each by one step that serves every place. The exchange numbers a route for
+// every word that a faulty node tells.
+// Kept: n, the sender and a route are passed one by one, as the public functions of this crate take them: callers hold the first two among
+// their settings and the route apart.
+ghost use Rattle.std.specs.Prelude.{◌≡◌, ◌+◌, get_or};
 ghost use Rattle.rules.specs.Routes.{back, held};
 ghost use Rattle.rules.specs.Cells.{cells_before, digit, rank, cell};
-ghost use Rattle.routes.specs.Needs.{Depth, Numbered, RankedTo, Apart, DigitTo};
+ghost use Rattle.routes.specs.Needs.{Depth, Numbered, RankedTo, Apart};
 
 use rules::Route;
 
@@ -13,6 +14,7 @@ pub fn cells_before(n: usize, k: usize) -> usize
     requires { Depth n k }
     ensures { result ≡ cells_before n k }
 {
+    // Kept: by cases, since a loop over the rounds costs an exchange up to 16 instructions in a thousand more.
     if k == 0 {
         return 0;
     }
@@ -31,40 +33,17 @@ pub fn cells_before(n: usize, k: usize) -> usize
     one + two + three + three * (n - 4)
 }
 
-// How many nodes below `a` are free beside the sender alone.
-fn first_digit(sender: u8, a: u8) -> usize
-    ensures { result ≡ digit sender [] a }
-{
-    let below = a as usize;
-    if sender < a { below - 1 } else { below }
-}
-
-// The same beside one number more of a row: if that number is below `a`, one node fewer is free.
-fn next_digit(sender: u8, r: Route, k: usize, a: u8, digits: usize) -> usize
-    requires { DigitTo sender r k a digits }
-    ensures { result ≡ digit sender (back r.nodes (k + 1)) a }
-{
-    if r.nodes[k] < a { digits - 1 } else { digits }
-}
-
-// The same beside the first k numbers of a row.
-fn digit_of(sender: u8, r: Route, k: usize, a: u8) -> usize
+// The digit of a number of a row: how many nodes below it are free beside the sender and the k numbers before it.
+fn digit_of(sender: u8, r: Route, k: usize) -> usize
     requires { Apart sender r k }
-    ensures { result ≡ digit sender (back r.nodes k) a }
+    ensures { result ≡ digit sender (back r.nodes k) (get_or r.nodes k 0) }
 {
-    let none = first_digit(sender, a);
-    if k == 0 {
-        return none;
+    let a = r.nodes[k];
+    let mut digits = usize::from(a) - usize::from(sender < a);
+    for &used in &r.nodes[..k] {
+        digits -= usize::from(used < a);
     }
-    let one = next_digit(sender, r, 0, a, none);
-    if k == 1 {
-        return one;
-    }
-    let two = next_digit(sender, r, 1, a, one);
-    if k == 2 {
-        return two;
-    }
-    next_digit(sender, r, 2, a, two)
+    digits
 }
 
 // One number more: its route stands behind those of every lower rank, n-1-k each, and by its digit among its own.
@@ -72,8 +51,8 @@ fn next_rank(n: u8, sender: u8, r: Route, k: usize, place: usize) -> usize
     requires { RankedTo n sender r k place }
     ensures { result ≡ rank n sender (back r.nodes (k + 1)) }
 {
-    let width = n as usize - 1 - k;
-    place * width + digit_of(sender, r, k, r.nodes[k])
+    let width = usize::from(n) - 1 - k;
+    place * width + digit_of(sender, r, k)
 }
 
 // The place of a route among those of its length.
@@ -81,6 +60,7 @@ fn rank_of(n: u8, sender: u8, r: Route) -> usize
     requires { Numbered n sender r }
     ensures { result ≡ rank n sender (held r) }
 {
+    // Kept: by cases, so that places are constants: a loop to the length costs an exchange up to a fourth more, one to four up to a thirteenth.
     let one = next_rank(n, sender, r, 0, 0);
     if r.len == 1 {
         return one;
@@ -102,5 +82,5 @@ pub fn cell_at(n: u8, sender: u8, r: Route) -> usize
     ensures { result ≡ cell n sender (held r) }
 {
     let round = r.len as usize - 1;
-    cells_before(n as usize, round) + rank_of(n, sender, r)
+    cells_before(usize::from(n), round) + rank_of(n, sender, r)
 }

@@ -1,5 +1,6 @@
-// A route is a row of four places and a length. Where the exchange extends, shortens and reads one for every message, places
-// are constants, by cases on the length: a loop over four places would cost it more.
+// A route is a row of four places and a length. Where the exchange extends and reads one for every message, places are constants, by cases
+// on the length: a loop over four places would cost it more.
+// Kept: n, sender and route one by one, as in `numbering`.
 ghost use Rattle.std.specs.Prelude.{◌≡◌, ◌≤◌, ◌<◌};
 ghost use Rattle.rules.specs.Routes.{back, held, but_last, shorter, receiver, is_route, teller};
 ghost use Rattle.rules.specs.Decision.{via};
@@ -14,24 +15,20 @@ pub fn extended(r: Route, relay: u8) -> Route
     requires { Extendable r }
     ensures { result ≡ row_of_route (via relay (held r)) }
 {
-    let a = r.nodes[0];
-    if r.len == 1 {
-        return Route {
+    let [a, b, c, _] = r.nodes;
+    match r.len {
+        1 => Route {
             nodes: [relay, a, 0, 0],
             len: 2,
-        };
-    }
-    let b = r.nodes[1];
-    if r.len == 2 {
-        return Route {
+        },
+        2 => Route {
             nodes: [a, relay, b, 0],
             len: 3,
-        };
-    }
-    let c = r.nodes[2];
-    Route {
-        nodes: [a, b, relay, c],
-        len: 4,
+        },
+        _ => Route {
+            nodes: [a, b, relay, c],
+            len: 4,
+        },
     }
 }
 
@@ -40,10 +37,9 @@ pub fn shortened(r: Route) -> Route
     requires { 0 < r.len }
     ensures { result ≡ shorter r }
 {
-    let nodes = r.nodes;
     Route {
-        nodes,
         len: r.len - 1,
+        ..r
     }
 }
 
@@ -53,16 +49,13 @@ pub fn teller_of(r: Route, sender: u8) -> u8
     requires { Short r }
     ensures { result ≡ teller sender (but_last (held r)) }
 {
-    if r.len == 4 {
-        return r.nodes[2];
+    let [a, b, c, _] = r.nodes;
+    match r.len {
+        4 => c,
+        3 => b,
+        2 => a,
+        _ => sender,
     }
-    if r.len == 3 {
-        return r.nodes[1];
-    }
-    if r.len == 2 {
-        return r.nodes[0];
-    }
-    sender
 }
 
 // Whether a node may receive on top of the first k numbers of a row: it is one of n, and neither the sender nor among them.
@@ -70,20 +63,8 @@ pub fn receives(n: u8, sender: u8, r: Route, k: usize, x: u8) -> bool
     requires { k ≤ 4 }
     ensures { result ≡ receiver n sender (back r.nodes k) x }
 {
-    if x >= n {
-        return false;
-    }
-    if x == sender {
-        return false;
-    }
-    let mut i: usize = 0;
-    while i < k {
-        if r.nodes[i] == x {
-            return false;
-        }
-        i += 1;
-    }
-    true
+    // Kept: not `contains`, with which the cell of a route costs half as much again and the route of a cell nearly twice as much.
+    x < n && x != sender && r.nodes[..k].iter().all(|&used| used != x)
 }
 
 // Whether a row is a route. Its length is judged first: places beyond the fourth are never read.
@@ -91,19 +72,8 @@ pub fn is_route(n: u8, m: u32, sender: u8, r: Route) -> bool
     requires { m ≤ 3 }
     ensures { result ≡ is_route n m sender (held r) }
 {
-    if r.len == 0 {
+    if r.len == 0 || r.len > m + 1 {
         return false;
     }
-    if r.len > m + 1 {
-        return false;
-    }
-    let len = r.len as usize;
-    let mut k: usize = 0;
-    while k < len {
-        if !receives(n, sender, r, k, r.nodes[k]) {
-            return false;
-        }
-        k += 1;
-    }
-    true
+    (0..r.len as usize).all(|k| receives(n, sender, r, k, r.nodes[k]))
 }

@@ -2,21 +2,22 @@
 use mathlib.Core.Path.{◌≡◌}
 use mathlib.Core.Logic.Iff
 use mathlib.Core.Logic.{◌↔◌}
-use mathlib.Core.Bool.{true, false, not}
-use mathlib.Core.List.{List, [], ◌∷◌}
-use Prim.Native.Nat.{ℕ, ◌+◌, ◌*◌, ◌/◌, ◌%◌, ◌^◌, ◌≤◌, ◌<◌}
+use mathlib.Core.Bool.{Bool, true, false, not}
+use mathlib.Core.List.{List, [], ◌∷◌, ◌++◌}
+use Prim.Native.Nat.{ℕ, ◌+◌, ◌*◌, ◌%◌, ◌^◌, ◌≤◌, ◌<◌}
 use native.Mathlib.Nat.{div-eq_of_lt, div-lt_iff_lt-mul}
 use native.Mathlib.Omega.{arith}
-use lib.Dec.{eqb, ltb}
+use lib.Dec.{eqb, leb}
 use lib.Pow.{pow_pos}
-use borrow.Author.Tests.{eqb-true, eqb-false, eq-eqb, ne_eqb, ltb-false, le-ltb, leb-false, lt-leb, not-false}
+use borrow.Author.Tests.{eqb-false, ne_eqb, ltb-false, le-ltb, leb-false, lt-leb, not-false}
+use Rattle.std.proofs.lemmas.Bool.{not_from_true}
+use Rattle.std.proofs.lemmas.Bool.Decides.{nat_tests}
 use Rattle.rules.specs.Words.{reserved}
 use Rattle.rules.specs.Routes.{is_route, held}
 use Rattle.rules.specs.Cells.{cells}
 use Rattle.rules.specs.Refusals.{Reason, because, first, wrong_nodes, wrong_rounds, low_bound, too_few, too_few_alone, no_sender, reserved_value, stray_fault, wrong_table, wrong_row, no_threshold, odd_list, no_route, no_cell, no_round, settings_reasons, exchange_reasons, layout_reasons, route_reasons, cell_reasons, part_reasons, vote_reasons, settings_refusal, exchange_refusal, route_refusal, cell_refusal, part_refusal, vote_refusal}
 use Rattle.rules.specs.declared.Settings.{Settings}
 use Rattle.rules.specs.declared.Route as R
-use Rattle.rules.proofs.Counting.{or_left, or_right}
 use Rattle.rules.proofs.Refused.{NoneApplies, end, ◌⨾◌, none-split, none-join, first-zero, settings-ascend, layout-ascend, exchange-passed, route-passed, cell-passed, part-passed, vote-passed}
 
 -- ---- the facts
@@ -74,28 +75,24 @@ pub record VoteAccepted (q list : ℕ) : Type 0 where
 
 nodes-right : (n : ℕ) → (wrong_nodes n ≡ false) ↔ ((4 ≤ n) × (n ≤ 15))
 unfolding wrong_nodes
-nodes-right n = (
-  λ e. (ltb-false n 4 (or_left (ltb n 4) (ltb 15 n) e), ltb-false 15 n (or_right (ltb n 4) (ltb 15 n) e)),
-  λ h. rw (le-ltb n 4 h.0, le-ltb 15 n h.1),
-)
+nodes-right n = (λ e. (grind (arith, nat_tests), grind (arith, nat_tests)), λ h. grind (arith, nat_tests))
 
 rounds-right : (m : ℕ) → (wrong_rounds m ≡ false) ↔ ((1 ≤ m) × (m ≤ 3))
 unfolding wrong_rounds
-rounds-right m = (
-  λ e. (omega (arith, eqb-false m 0 (or_left (eqb m 0) (ltb 3 m) e)), ltb-false 3 m (or_right (eqb m 0) (ltb 3 m) e)),
-  λ h. rw (ne_eqb m 0 (omega arith), le-ltb 3 m h.1),
-)
+rounds-right m = (λ e. (grind (arith, nat_tests), grind (arith, nat_tests)), λ h. grind (arith, nat_tests))
 
 faults-right : (n faults : ℕ) → (stray_fault n faults ≡ false) ↔ (faults < 2 ^ n)
 unfolding stray_fault
-faults-right n faults = (
-  λ e. omega (arith, (div-lt_iff_lt-mul {k = 2 ^ n} {x = faults} {y = 1} (pow_pos n)).0 (omega (arith, eqb-true (faults / 2 ^ n) 0 (not-false (eqb (faults / 2 ^ n) 0) e)))),
-  λ h. rw (div-eq_of_lt h),
-)
+faults-right n faults =
+    let small = div-lt_iff_lt-mul {k = 2 ^ n} {x = faults} {y = 1} (pow_pos n) in
+    (λ e. grind (arith, nat_tests, small.0), λ h. rw (div-eq_of_lt h))
 
 -- a test of difference fails exactly where the two are equal
 same : (a b : ℕ) → (not (eqb a b) ≡ false) ↔ (a ≡ b)
-same a b = (λ e. eqb-true a b (not-false (eqb a b) e), λ e. rw (eq-eqb a b e))
+same a b = (λ e. grind (arith, nat_tests), λ e. grind (arith, nat_tests))
+
+above : (a b : ℕ) → (leb a b ≡ false) ↔ (b < a)
+above a b = (leb-false a b, lt-leb a b)
 
 -- ---- settings and layout
 
@@ -148,66 +145,45 @@ settings-facts s = (to, from)
 pub settings-accepted : (s : Settings) → (settings_refusal s ≡ 0) ↔ SettingsAccepted s
 settings-accepted s = Iff.trans (first-zero 0 (settings_reasons s) (settings-ascend s)) (settings-facts s)
 
+-- two reasons after a list
+two-more : {F A B : Type 0} (front : List Reason) (i j : ℕ) (a b : Bool) → NoneApplies front ↔ F → (a ≡ false) ↔ A → (b ≡ false) ↔ B
+    → NoneApplies (front ++ (because i a ∷ because j b ∷ [])) ↔ (F × A × B)
+two-more {F = F} {A = A} {B = B} front i j a b f p q = (λ h. apart (none-split front (because i a ∷ because j b ∷ []) h), λ h. none-join (f.1 h.0) (p.1 h.1 ⨾ q.1 h.2 ⨾ end))
+  where
+    apart : NoneApplies front × NoneApplies (because i a ∷ because j b ∷ []) → F × A × B
+    apart (h, x ⨾ y ⨾ end) = (f.0 h, p.0 x, q.0 y)
+
 pub exchange-accepted : (s : Settings) (table row : ℕ) → (exchange_refusal s table row ≡ 0) ↔ ExchangeAccepted s table row
 unfolding exchange_reasons wrong_table wrong_row
-exchange-accepted s table row = (λ e. to (none-split (settings_reasons s) last ((exchange-passed s table row).0 e)), λ a. (exchange-passed s table row).1 (from a))
-  where
-    last : List Reason
-    last = because 8 (wrong_table s.n s.m table) ∷ because 9 (wrong_row s.n row) ∷ []
-
-    to : NoneApplies (settings_reasons s) × NoneApplies last → ExchangeAccepted s table row
-    to (h, e8 ⨾ e9 ⨾ end) =
-        record { settings = (settings-facts s).0 h; table_is = (same table (2 * cells s.n s.m)).0 e8; row_is = (same row (2 * s.n)).0 e9 }
-
-    from : ExchangeAccepted s table row → NoneApplies (exchange_reasons s table row)
-    from a =
-        none-join ((settings-facts s).1 a.settings) ((same table (2 * cells s.n s.m)).1 a.table_is ⨾ (same row (2 * s.n)).1 a.row_is ⨾ end)
+exchange-accepted s table row =
+    Iff.trans (exchange-passed s table row)
+    (Iff.trans (two-more (settings_reasons s) 8 9 (wrong_table s.n s.m table) (wrong_row s.n row) (settings-facts s) (same table (2 * cells s.n s.m)) (same row (2 * s.n)))
+    (λ h. record { settings = h.0; table_is = h.1; row_is = h.2 }, λ a. (a.settings, a.table_is, a.row_is)))
 
 pub route-accepted : (n m sender : ℕ) (r : R.Route) → (route_refusal n m sender r ≡ 0) ↔ RouteAccepted n m sender r
 unfolding route_reasons no_sender no_route
-route-accepted n m sender r = (λ e. to (none-split (layout_reasons n m) last ((route-passed n m sender r).0 e)), λ a. (route-passed n m sender r).1 (from a))
-  where
-    last : List Reason
-    last = because 5 (no_sender n sender) ∷ because 13 (no_route n m sender r) ∷ []
-
-    to : NoneApplies (layout_reasons n m) × NoneApplies last → RouteAccepted n m sender r
-    to (h, e5 ⨾ e13 ⨾ end) =
-        record { layout = (layout-facts n m).0 h; sender-below = leb-false n sender e5; route = not-false (is_route n m sender (held r)) e13 }
-
-    from : RouteAccepted n m sender r → NoneApplies (route_reasons n m sender r)
-    from a = none-join ((layout-facts n m).1 a.layout) (lt-leb n sender a.sender-below ⨾ (rw a.route) ⨾ end)
+route-accepted n m sender r =
+    Iff.trans (route-passed n m sender r)
+    (Iff.trans (two-more (layout_reasons n m) 5 13 (no_sender n sender) (no_route n m sender r) (layout-facts n m) (above n sender) (not-false (is_route n m sender (held r)), not_from_true (is_route n m sender (held r))))
+    (λ h. record { layout = h.0; sender-below = h.1; route = h.2 }, λ a. (a.layout, a.sender-below, a.route)))
 
 pub cell-accepted : (n m sender c : ℕ) → (cell_refusal n m sender c ≡ 0) ↔ CellAccepted n m sender c
 unfolding cell_reasons no_sender no_cell
-cell-accepted n m sender c = (λ e. to (none-split (layout_reasons n m) last ((cell-passed n m sender c).0 e)), λ a. (cell-passed n m sender c).1 (from a))
-  where
-    last : List Reason
-    last = because 5 (no_sender n sender) ∷ because 14 (no_cell n m c) ∷ []
-
-    to : NoneApplies (layout_reasons n m) × NoneApplies last → CellAccepted n m sender c
-    to (h, e5 ⨾ e14 ⨾ end) =
-        record { layout = (layout-facts n m).0 h; sender-below = leb-false n sender e5; cell_below = leb-false (cells n m) c e14 }
-
-    from : CellAccepted n m sender c → NoneApplies (cell_reasons n m sender c)
-    from a = none-join ((layout-facts n m).1 a.layout) (lt-leb n sender a.sender-below ⨾ lt-leb (cells n m) c a.cell_below ⨾ end)
+cell-accepted n m sender c =
+    Iff.trans (cell-passed n m sender c)
+    (Iff.trans (two-more (layout_reasons n m) 5 14 (no_sender n sender) (no_cell n m c) (layout-facts n m) (above n sender) (above (cells n m) c))
+    (λ h. record { layout = h.0; sender-below = h.1; cell_below = h.2 }, λ a. (a.layout, a.sender-below, a.cell_below)))
 
 pub part-accepted : (n m table round : ℕ) → (part_refusal n m table round ≡ 0) ↔ PartAccepted n m table round
 unfolding part_reasons wrong_table no_round
-part-accepted n m table round = (λ e. to (none-split (layout_reasons n m) last ((part-passed n m table round).0 e)), λ a. (part-passed n m table round).1 (from a))
-  where
-    last : List Reason
-    last = because 8 (wrong_table n m table) ∷ because 15 (no_round m round) ∷ []
-
-    to : NoneApplies (layout_reasons n m) × NoneApplies last → PartAccepted n m table round
-    to (h, e8 ⨾ e15 ⨾ end) =
-        record { layout = (layout-facts n m).0 h; table_is = (same table (2 * cells n m)).0 e8; round-below = ltb-false m round e15 }
-
-    from : PartAccepted n m table round → NoneApplies (part_reasons n m table round)
-    from a = none-join ((layout-facts n m).1 a.layout) ((same table (2 * cells n m)).1 a.table_is ⨾ le-ltb m round a.round-below ⨾ end)
+part-accepted n m table round =
+    Iff.trans (part-passed n m table round)
+    (Iff.trans (two-more (layout_reasons n m) 8 15 (wrong_table n m table) (no_round m round) (layout-facts n m) (same table (2 * cells n m)) (ltb-false m round, le-ltb m round))
+    (λ h. record { layout = h.0; table_is = h.1; round-below = h.2 }, λ a. (a.layout, a.table_is, a.round-below)))
 
 pub vote-accepted : (q list : ℕ) → (vote_refusal q list ≡ 0) ↔ VoteAccepted q list
 unfolding vote_reasons no_threshold odd_list
-vote-accepted q list = (λ e. to ((vote-passed q list).0 e), λ a. (vote-passed q list).1 (from a))
+vote-accepted q list = Iff.trans (vote-passed q list) (to, from)
   where
     to : NoneApplies (vote_reasons q list) → VoteAccepted q list
     to (e11 ⨾ e12 ⨾ end) = record { positive = omega (arith, eqb-false q 0 e11); even = (same (list % 2) 0).0 e12 }

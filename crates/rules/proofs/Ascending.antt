@@ -1,13 +1,13 @@
 -- The numbering is the paper's: rounds stand one after another, and inside a round routes stand in ascending order, the first
 -- number weighing most. So no two routes share a cell.
 use mathlib.Core.Path.{◌≡◌, sym, ap, ◌∙◌}
-use mathlib.Core.Logic.{inl, inr, ◌↔◌}
+use mathlib.Core.Logic.{◌⊎◌, inl, inr, ◌↔◌}
 use mathlib.Core.Bool.{true}
 use mathlib.Core.List.{List}
 use Prim.Native.Nat.{ℕ, suc, ◌-◌, ◌≤◌, ◌<◌}
 use native.Mathlib.Omega.{arith}
-use native.Mathlib.Decide.{dec_lt}
 use lib.ListN.{length}
+use Rattle.std.proofs.lemmas.Bool.{cases_order}
 use Rattle.rules.specs.Routes.{written, is_path}
 use Rattle.rules.specs.Cells.{cell}
 use Rattle.rules.proofs.Order.{Before, before-one-way}
@@ -62,9 +62,9 @@ module _ (n sender : ℕ) (node : sender < n) where
   -- no two routes share a cell
   pub cell-injective : (p q : List ℕ) → is_path n sender p ≡ true → is_path n sender q ≡ true → 1 ≤ length p → 1 ≤ length q
       → cell n sender p ≡ cell n sender q → p ≡ q
-  cell-injective p q P Q some other h = go (dec_lt (length p) (length q)) (dec_lt (length q) (length p))
+  cell-injective p q P Q some other h = go (cases_order (length p) (length q))
     where
-      go : Dec (length p < length q) → Dec (length q < length p) → p ≡ q
-      go (yes d) e = absurd (omega (arith, rounds-in-turn p q P Q some d))
-      go (no d) (yes e) = absurd (omega (arith, rounds-in-turn q p Q P other e))
-      go (no d) (no e) = same-round (length p - 1) p q (omega arith) (omega arith) P Q h
+      go : (length p ≡ length q) ⊎ ((length p < length q) ⊎ (length q < length p)) → p ≡ q
+      go (inl e) = same-round (length p - 1) p q (omega arith) (omega arith) P Q h
+      go (inr (inl d)) = absurd (omega (arith, rounds-in-turn p q P Q some d))
+      go (inr (inr d)) = absurd (omega (arith, rounds-in-turn q p Q P other d))

@@ -1,18 +1,15 @@
 -- No decision reads u, nor does what is delivered or what becomes of the nodes: it enters by the judging of the settings and by the
 -- class alone.
 use mathlib.Core.Path.{◌≡◌, refl, ap, fun_ext}
-use mathlib.Core.Bool.{true, false}
 use mathlib.Core.List.{List, [], ◌∷◌, map}
 use Prim.Native.Nat.{ℕ}
 use native.Mathlib.Omega.{arith}
 use Rattle.rules.specs.Lists.{up_to}
-use Rattle.rules.specs.Words.{settings, faulty}
-use Rattle.rules.specs.Routes.{teller}
+use Rattle.rules.specs.Words.{settings}
 use Rattle.rules.specs.Delivered.{delivered}
 use Rattle.rules.specs.Decision.{decide, poll, nodes_at, threshold, byz, decision}
 use Rattle.rules.specs.Exchange.{slot, slots, row_of, tie_count}
 use Rattle.rules.specs.declared.Settings.{Settings}
-use Rattle.rules.proofs.Counting.{by-test}
 use Rattle.rules.proofs.Accepted.{SettingsAccepted}
 
 module _ (n m u u' sender value faults : ℕ) where
@@ -26,14 +23,7 @@ module _ (n m u u' sender value faults : ℕ) where
   pub delivered-unbound : (table r : List ℕ) → delivered s table r ≡ delivered s' table r
   unfolding delivered
   delivered-unbound table [] = refl
-  delivered-unbound table (i ∷ p) =
-      by-test (faulty faults (teller sender p))
-      (λ (f : faulty faults (teller sender p) ≡ true). rw f)
-      (λ (f : faulty faults (teller sender p) ≡ false). rw f (delivered-unbound table p))
-
-  poll_unbound : (r : List ℕ) → poll s r ≡ poll s' r
-  unfolding threshold nodes_at
-  poll_unbound r = refl
+  delivered-unbound table (i ∷ p) = rw (delivered-unbound table p)
 
   -- nor what is decided, with any number of rounds left
   pub byz-unbound : (table : List ℕ) (t : ℕ) (r : List ℕ) → byz s table t r ≡ byz s' table t r

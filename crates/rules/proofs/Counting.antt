@@ -1,14 +1,19 @@
 -- Counting over lists of numbers: how many entries pass a test.
 -- Every inequality between counts follows from the same inequality between the tests' bits at each number.
-use mathlib.Core.Path.{◌≡◌, refl, sym, ap, ap₂, ◌∙◌}
-use mathlib.Core.Bool.{Bool, true, false, not, ◌&&◌, ◌||◌, true≢false, false≢true}
+pub use mathlib.Core.List.{map-append}
+pub use Rattle.std.specs.Cmp.{first_so as and_left, second_so as and_right}
+pub use Rattle.std.specs.Cmp.Derive.{both_true as and_both}
+use mathlib.Core.Path.{◌≡◌, refl}
+use mathlib.Core.Logic.{◌≢◌}
+use mathlib.Core.Bool.{Bool, true, false, not, ◌&&◌, ◌||◌}
 use mathlib.Core.List.{List, [], ◌∷◌, ◌++◌, map, append-nil}
 use Prim.Native.Nat.{ℕ, zero, suc, ◌+◌, ◌≤◌, ◌<◌}
 use native.Mathlib.Omega.{arith}
 use lib.ListN.{length, length-append, get_or, get_or-append}
-use lib.Seq.{get_or_at}
-use lib.Dec.{eqb, ltb}
-use borrow.Author.Tests.{eqb-true, eqb-false, eq-eqb, ne_eqb, ltb-true, ltb-false, lt-ltb, leb-true, le-leb, not-true}
+use lib.Dec.{eqb}
+use Rattle.std.proofs.lemmas.Bool.{or_parts}
+use Rattle.std.proofs.lemmas.Bool.Decides.{nat_tests}
+use Rattle.std.proofs.lemmas.List.{get_or_push}
 use Rattle.rules.specs.Lists.{bit, count, keep, all, up_to, total}
 
 -- go by a test's answer, and keep the equation
@@ -18,23 +23,14 @@ by-test false f g = g refl
 
 -- where "either" fails, both fail: the first, and the second
 pub or_left : (a b : Bool) → (a || b) ≡ false → a ≡ false
-or_left true b e = e
-or_left false b e = refl
+or_left a b e = (or_parts a b e).0
 
 pub or_right : (a b : Bool) → (a || b) ≡ false → b ≡ false
-or_right true b e = absurd (true≢false e)
-or_right false b e = e
+or_right a b e = (or_parts a b e).1
 
--- ---- from implications to bits
-
-pub bit_le : (a b : Bool) → (a ≡ true → b ≡ true) → bit a ≤ bit b
-bit_le true b h = rw (h refl) (omega arith)
-bit_le false b h = omega arith
-
+-- where a test passes only if one of two does, its bit is no more than theirs together
 pub bit-or : (a b c : Bool) → (a ≡ true → b ≡ false → c ≡ true) → bit a ≤ bit b + bit c
-bit-or true true c h = omega arith
-bit-or true false c h = rw (h refl refl) (omega arith)
-bit-or false b c h = omega arith
+bit-or a b c h = grind (arith, h)
 
 -- ---- sums of counts
 
@@ -68,29 +64,25 @@ count-two-two P P' R S [] h = omega arith
 count-two-two P P' R S (x ∷ L) h = omega (arith, h x, count-two-two P P' R S L h)
 
 pub bit-le-one : (b : Bool) → bit b ≤ 1
-bit-le-one true = omega arith
-bit-le-one false = omega arith
+bit-le-one b = grind arith
 
--- no more than one of two tests passes: together they count no more than the entries
-pub count-two : (P Q : ℕ → Bool) (L : List ℕ) → ((x : ℕ) → P x ≡ true → Q x ≡ false) → count P L + count Q L ≤ length L
+-- two numbers together are met no more often than there are entries
+pub count-two : (a b : ℕ) (L : List ℕ) → a ≢ b → count (eqb a) L + count (eqb b) L ≤ length L
 unfolding count
-count-two P Q [] h = omega arith
-count-two P Q (x ∷ L) h =
-    by-test (P x)
-    (λ (e : P x ≡ true). rw (e, h x e) (omega (arith, count-two P Q L h)))
-    (λ (e : P x ≡ false). rw e (omega (arith, bit-le-one (Q x), count-two P Q L h)))
+count-two a b [] ne = omega arith
+count-two a b (x ∷ L) ne = grind (arith, nat_tests, count-two a b L ne)
 
 -- ---- count, keep and map
 
 pub length-keep : (R : ℕ → Bool) (L : List ℕ) → length (keep R L) ≡ count R L
 unfolding count keep
 length-keep R [] = refl
-length-keep R (x ∷ L) = by-test (R x) (λ (e : R x ≡ true). rw e (omega (arith, length-keep R L))) (λ (e : R x ≡ false). rw e (omega (arith, length-keep R L)))
+length-keep R (x ∷ L) = grind (arith, length-keep R L)
 
 pub count-keep : (P R : ℕ → Bool) (L : List ℕ) → count P (keep R L) ≡ count (λ x. R x && P x) L
 unfolding count keep
 count-keep P R [] = refl
-count-keep P R (x ∷ L) = by-test (R x) (λ (e : R x ≡ true). rw e (omega (arith, count-keep P R L))) (λ (e : R x ≡ false). rw e (omega (arith, count-keep P R L)))
+count-keep P R (x ∷ L) = grind (arith, count-keep P R L)
 
 pub count_map : (P : ℕ → Bool) (f : ℕ → ℕ) (L : List ℕ) → count P (map f L) ≡ count (λ x. P (f x)) L
 unfolding count
@@ -100,13 +92,7 @@ count_map P f (x ∷ L) = omega (arith, count_map P f L)
 pub map-keep : {A : Type 0} (f g : ℕ → A) (R : ℕ → Bool) (L : List ℕ) → ((x : ℕ) → R x ≡ true → f x ≡ g x) → map f (keep R L) ≡ map g (keep R L)
 unfolding keep
 map-keep f g R [] h = refl
-map-keep f g R (x ∷ L) h = by-test (R x) (λ (e : R x ≡ true). rw e (ap₂ ◌∷◌ (h x e) (map-keep f g R L h))) (λ (e : R x ≡ false). rw e (map-keep f g R L h))
-
--- a place of a list of readings
-pub nth-map : {A B : Type 0} (f : A → B) (l : List A) (i : ℕ) (a : A) (b : B) → i < length l → get_or (map f l) i b ≡ f (get_or l i a)
-nth-map f [] i a b h = absurd (omega arith)
-nth-map f (x ∷ l) zero a b h = refl
-nth-map f (x ∷ l) (suc i) a b h = nth-map f l i a b (omega arith)
+map-keep f g R (x ∷ L) h = grind (arith, map-keep f g R L h)
 
 pub count-append : (P : ℕ → Bool) (K L : List ℕ) → count P (K ++ L) ≡ count P K + count P L
 unfolding count
@@ -128,77 +114,51 @@ length-up_to (suc n) = rw length-append (omega (arith, length-up_to n))
 pub nth-up_to : (n i : ℕ) → i < n → get_or (up_to n) i 0 ≡ i
 unfolding up_to
 nth-up_to zero i h = absurd (omega arith)
-nth-up_to (suc n) i h =
-    by-test (ltb i n)
-    (λ (e : ltb i n ≡ true). get_or-append (up_to n) (n ∷ []) 0 i (omega (arith, ltb-true i n e, length-up_to n)) ∙ nth-up_to n i (ltb-true i n e))
-    (λ (e : ltb i n ≡ false).
-    let last : i ≡ n = omega (arith, ltb-false i n e) in
-    get_or_at (up_to n) n [] 0 i (length-up_to n ∙ sym last) ∙ sym last)
+nth-up_to (suc n) i h = grind (arith, get_or_push (up_to n) n 0 i, get_or-append (up_to n) (n ∷ []) 0 i, length-up_to n, nth-up_to n i)
 
 -- a number is met once among the numbers below a bound above it, and never among those below it
 never : (j n : ℕ) → n ≤ j → count (eqb j) (up_to n) ≡ 0
 unfolding count up_to
 never j zero h = refl
-never j (suc n) h = rw (count-append, ne_eqb j n (omega arith)) (omega (arith, never j n (omega arith)))
+never j (suc n) h = grind (arith, nat_tests, count-append, never j n)
 
 pub once : (j n : ℕ) → j < n → count (eqb j) (up_to n) ≡ 1
 unfolding count up_to
 once j zero h = absurd (omega arith)
-once j (suc n) h =
-    rw count-append (by-test (eqb j n)
-    (λ (e : eqb j n ≡ true). rw e (omega (arith, never j n (omega (arith, eqb-true j n e)))))
-    (λ (e : eqb j n ≡ false). rw e (omega (arith, once j n (omega (arith, eqb-false j n e))))))
+once j (suc n) h = grind (arith, nat_tests, count-append, never j n, once j n)
 
 -- one number of those below n passes Q and not P, and P is Q elsewhere, or within Q: one entry fewer
 module _ (P Q : ℕ → Bool) (j n : ℕ) (below : j < n) (out : P j ≡ false) (in' : Q j ≡ true) where
   bits-same : ((x : ℕ) → eqb j x ≡ false → P x ≡ Q x) → (x : ℕ) → bit (Q x) ≡ bit (P x) + bit (eqb j x)
-  bits-same h x = by-test (eqb j x)
-      (λ (e : eqb j x ≡ true). rw (e, ← eqb-true j x e, out, in') (omega arith))
-      (λ (e : eqb j x ≡ false). rw (e, h x e) (omega arith))
+  bits-same h x = grind (arith, nat_tests, h x)
 
   pub one_fewer : ((x : ℕ) → eqb j x ≡ false → P x ≡ Q x) → count Q (up_to n) ≡ count P (up_to n) + 1
   one_fewer h = rw (← once j n below) (count-split Q P (eqb j) (up_to n) (bits-same h))
 
   bits-within : ((x : ℕ) → P x ≡ true → Q x ≡ true) → (x : ℕ) → bit (P x) + bit (eqb j x) ≤ bit (Q x)
-  bits-within h x = by-test (eqb j x)
-      (λ (e : eqb j x ≡ true). rw (e, ← eqb-true j x e, out, in') (omega arith))
-      (λ (e : eqb j x ≡ false). rw e (omega (arith, bit_le (P x) (Q x) (h x))))
+  bits-within h x = grind (arith, nat_tests, h x)
 
   pub at-least-one-fewer : ((x : ℕ) → P x ≡ true → Q x ≡ true) → count P (up_to n) + 1 ≤ count Q (up_to n)
   at-least-one-fewer h = omega (arith, once j n below, count-apart P (eqb j) Q (up_to n) (bits-within h))
 
 -- ---- all entries pass a test
 
-pub and_left : (a b : Bool) → (a && b) ≡ true → a ≡ true
-and_left true b e = refl
-and_left false b e = e
-
-pub and_right : (a b : Bool) → (a && b) ≡ true → b ≡ true
-and_right true b e = e
-and_right false b e = absurd (false≢true e)
-
-pub and_both : {a b : Bool} → a ≡ true → b ≡ true → (a && b) ≡ true
-and_both p q = rw (p, q)
-
--- for `search`: take tests apart and put them together
-pub ruleset bools = (and_both, and_left, and_right, not-true, eqb-true, eqb-false, eq-eqb, ne_eqb, ltb-true, lt-ltb, leb-true, le-leb)
-
 pub all_keep : (P : ℕ → Bool) (L : List ℕ) → all P (keep P L) ≡ true
 unfolding keep all
 all_keep P [] = refl
-all_keep P (x ∷ L) = by-test (P x) (λ (e : P x ≡ true). rw e (and_both e (all_keep P L))) (λ (e : P x ≡ false). rw e (all_keep P L))
+all_keep P (x ∷ L) = grind (arith, all_keep P L)
 
 pub all-le : (P Q : ℕ → Bool) (L : List ℕ) → ((x : ℕ) → P x ≡ true → Q x ≡ true) → all P L ≡ true → all Q L ≡ true
 unfolding all
 all-le P Q [] h e = refl
-all-le P Q (x ∷ L) h e = and_both (h x (and_left (P x) (all P L) e)) (all-le P Q L h (and_right (P x) (all P L) e))
+all-le P Q (x ∷ L) h e = grind (arith, h x, all-le P Q L h)
 
 -- what all entries pass, each of them passes
 pub all-at : (P : ℕ → Bool) (L : List ℕ) (i : ℕ) → i < length L → all P L ≡ true → P (get_or L i 0) ≡ true
 unfolding all
 all-at P [] i h e = absurd (omega arith)
-all-at P (x ∷ L) zero h e = and_left (P x) (all P L) e
-all-at P (x ∷ L) (suc i) h e = all-at P L i (omega arith) (and_right (P x) (all P L) e)
+all-at P (x ∷ L) zero h e = grind arith
+all-at P (x ∷ L) (suc i) h e = grind (arith, all-at P L i)
 
 -- ---- a sum over a list
 
@@ -212,7 +172,7 @@ total-snoc (y ∷ L) x = omega (arith, total-snoc L x)
 pub complement : (P : ℕ → Bool) (L : List ℕ) → length L ≡ count (λ x. not (P x)) L + count P L
 unfolding count
 complement P [] = refl
-complement P (x ∷ L) = by-test (P x) (λ (e : P x ≡ true). rw e (omega (arith, complement P L))) (λ (e : P x ≡ false). rw e (omega (arith, complement P L)))
+complement P (x ∷ L) = grind (arith, complement P L)
 
 -- no more of the numbers below n pass a test than there are
 pub count_most : (P : ℕ → Bool) (n : ℕ) → count P (up_to n) ≤ n
@@ -228,11 +188,7 @@ keep-none P (x ∷ L) h = rw (h x) (keep-none P L h)
 pub keep_append : (P : ℕ → Bool) (K L : List ℕ) → keep P (K ++ L) ≡ keep P K ++ keep P L
 unfolding keep
 keep_append P [] L = refl
-keep_append P (x ∷ K) L = by-test (P x) (λ (e : P x ≡ true). rw (e, keep_append P K L)) (λ (e : P x ≡ false). rw (e, keep_append P K L))
-
-pub map-append : {A B : Type 0} (f : A → B) (K L : List A) → map f (K ++ L) ≡ map f K ++ map f L
-map-append f [] L = refl
-map-append f (x ∷ K) L = ap (λ t. f x ∷ t) (map-append f K L)
+keep_append P (x ∷ K) L = grind (arith, keep_append P K L)
 
 pub map-up_to : {A : Type 0} (f : ℕ → A) (k : ℕ) → map f (up_to (suc k)) ≡ map f (up_to k) ++ (f k ∷ [])
 unfolding up_to

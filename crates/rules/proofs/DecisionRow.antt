@@ -7,15 +7,15 @@ use mathlib.Core.List.{List, [], ◌∷◌, map}
 use Prim.Native.Nat.{ℕ, ◌*◌, ◌≤◌, ◌<◌}
 use native.Mathlib.Omega.{arith}
 use lib.ListN.{length, length-map}
-use lib.Dec.{eqb}
-use borrow.Author.Tests.{eqb-true, eqb-false, eq-eqb, ne_eqb}
+use borrow.Author.Tests.{eq-eqb, ne_eqb}
+use Rattle.std.proofs.lemmas.List.{get_or-map}
 use Rattle.rules.specs.Lists.{up_to}
 use Rattle.rules.specs.Words.{word_at, not_reported, faulty}
 use Rattle.rules.specs.Decision.{word_of, decision}
 use Rattle.rules.specs.Exchange.{slot, slots, row_of, row_after}
 use Rattle.rules.specs.Refusals.{exchange_refusal}
 use Rattle.rules.specs.declared.Settings.{Settings}
-use Rattle.rules.proofs.Counting.{by-test, length-up_to, nth-up_to, nth-map}
+use Rattle.rules.proofs.Counting.{length-up_to, nth-up_to}
 use Rattle.rules.proofs.WordRows.{length-bytes, word-of-bytes}
 use Rattle.rules.proofs.Accepted.{settings-of}
 use Rattle.rules.proofs.Ordinary.{byz-ordinary}
@@ -32,8 +32,8 @@ module _ (s : Settings) (table : List ℕ) where
   row_word i below =
       let long : i < length (up_to s.n) = omega (arith, length-up_to s.n) in
       word-of-bytes (map word_of (slots s table)) i
-      ∙ nth-map word_of (slots s table) i (slot s table 0) 0 (rw length-map long)
-      ∙ ap word_of (nth-map (slot s table) (up_to s.n) i 0 (slot s table 0) long ∙ ap (slot s table) (nth-up_to s.n i below))
+      ∙ get_or-map word_of (slots s table) i (slot s table 0) 0 (rw length-map long)
+      ∙ ap word_of (get_or-map (slot s table) (up_to s.n) i 0 (slot s table 0) long ∙ ap (slot s table) (nth-up_to s.n i below))
 
   -- ---- what a slot holds
 
@@ -55,17 +55,12 @@ module _ (s : Settings) (table : List ℕ) where
   module _ (value : s.value ≤ 65000) where
     -- a fault-free node's slot is the default or an ordinary value
     slot-ordinary : (i : ℕ) → faulty s.faults i ≡ false → (slot s table i).word ≤ 65000
-    unfolding decision
-    slot-ordinary i f =
-        by-test (eqb i s.sender)
-        (λ (e : eqb i s.sender ≡ true).
-        let same = eqb-true i s.sender e in
-        rw (same, slot-sender (rw same at f)) value)
-        (λ (e : eqb i s.sender ≡ false). rw (slot-receiver i f (eqb-false i s.sender e)) (byz-ordinary s table value s.m (i ∷ [])))
+    unfolding slot decision
+    slot-ordinary i f = grind (arith, byz-ordinary s table value s.m (i ∷ []))
 
     -- so "not reported" stands exactly where the node is faulty
     pub slot-unreported : (i : ℕ) → ((slot s table i).word ≡ not_reported) ↔ (faulty s.faults i ≡ true)
-    slot-unreported i = (λ e. by-test (faulty s.faults i) (λ f. f) (λ f. absurd (omega (arith, slot-ordinary i f, e))), slot-faulty i)
+    slot-unreported i = (λ e. grind (arith, slot-ordinary i), slot-faulty i)
 
 -- ---- the row that an exchange leaves
 

@@ -1,13 +1,15 @@
 -- The fault word: f, the number of its set bits, is the number of faulty nodes; and where it has a bit at n or above.
 use mathlib.Core.Path.{◌≡◌, refl, sym, ap, ap₂, ◌∙◌, fun_ext}
 use mathlib.Core.Logic.{◌↔◌}
-use mathlib.Core.Bool.{Bool, true, false, true≢false}
+use mathlib.Core.Bool.{Bool, true, false}
 use Prim.Native.Nat.{ℕ, zero, suc, ◌+◌, ◌/◌, ◌%◌, ◌^◌, ◌≤◌, ◌<◌}
-use native.Mathlib.Nat.{div-div-eq-div-mul, div-one, pow-succ', zero-div}
+use native.Mathlib.Nat.{div-div-eq-div-mul, div-one, pow-succ'}
 use native.Mathlib.Omega.{arith}
 use lib.Count.{ones, ones_in, ones_step, ones-le}
 use lib.Dec.{eqb}
-use borrow.Author.Tests.{eqb-true, eqb-false}
+use Rattle.std.proofs.lemmas.Bool.{cases_lt}
+use Rattle.std.proofs.lemmas.Nat.Bits.{bit_at_above}
+use Rattle.std.proofs.lemmas.Bool.Decides.{nat_tests}
 use Rattle.rules.specs.Lists.{bit, count, up_to}
 use Rattle.rules.specs.Words.{faulty}
 use Rattle.rules.specs.Exchange.{fault_count}
@@ -22,10 +24,7 @@ count-shift P zero = refl
 count-shift P (suc n) = omega (arith, count-up_to P (suc n), count-up_to (λ x. P (suc x)) n, count-shift P n)
 
 bit-parity : (w : ℕ) → bit (eqb (w % 2) 1) ≡ w % 2
-bit-parity w =
-    by-test (eqb (w % 2) 1)
-    (λ (e : eqb (w % 2) 1 ≡ true). rw e (omega (arith, eqb-true (w % 2) 1 e)))
-    (λ (e : eqb (w % 2) 1 ≡ false). rw e (omega (arith, eqb-false (w % 2) 1 e)))
+bit-parity w = grind (arith, nat_tests)
 
 faulty-shift : (w x : ℕ) → faulty w (suc x) ≡ faulty (w / 2) x
 unfolding faulty
@@ -70,15 +69,9 @@ below_power : (w : ℕ) → w < 2 ^ w
 below_power zero = omega arith
 below_power (suc w) = omega (arith, below_power w)
 
-no-bit : (i : ℕ) → faulty 0 i ≡ false
-unfolding faulty
-no-bit i = rw (zero-div (2 ^ i))
-
 set-bit : (n w i : ℕ) → n ≤ i → faulty w i ≡ true → 2 ^ n ≤ w
-set-bit zero zero i h e = absurd (true≢false (sym e ∙ no-bit i))
-set-bit zero (suc w) i h e = omega arith
-set-bit (suc n) w zero h e = absurd (omega arith)
-set-bit (suc n) w (suc i) h e = omega (arith, set-bit n (w / 2) i (omega arith) (sym (faulty-shift w i) ∙ e))
+unfolding faulty
+set-bit n w i h e = grind (arith, nat_tests, bit_at_above w n i, cases_lt w (2 ^ n))
 
 high_bit : (n w : ℕ) → 2 ^ n ≤ w → BitFrom n w
 high_bit zero w h = some-bit w w (below_power w) (omega arith)

@@ -1,21 +1,21 @@
 -- Route to cell and cell to route undo each other, and each round's routes fill exactly its cells.
 use mathlib.Core.Path.{◌≡◌, refl, sym, ap, ◌∙◌}
-use mathlib.Core.Logic.{◌↔◌}
+use mathlib.Core.Logic.{◌↔◌, ⊎_elim}
 use mathlib.Core.Bool.{Bool, true, false}
 use mathlib.Core.List.{List, [], ◌∷◌}
 use Prim.Native.Nat.{ℕ, zero, suc, ◌*◌, ◌-◌, ◌/◌, ◌%◌, ◌≤◌, ◌<◌}
 use native.Mathlib.Omega.{arith}
 use native.Mathlib.Nat.{mul-zero, mod-lt, div-lt_iff_lt-mul, div-add-mod'}
-use native.Mathlib.Decide.{dec_lt}
 use native.Mathlib.Numerals.{add-one}
 use lib.ListN.{length, get_or, get_or-append}
 use lib.Seq.{get_or_at}
 use lib.Dec.{ltb}
 use borrow.Author.Tests.{ltb-true, ltb-false}
+use Rattle.std.proofs.lemmas.Bool.{cases_lt}
 use Rattle.rules.specs.Lists.{count, keep, up_to}
 use Rattle.rules.specs.Routes.{receiver, receivers, is_path, is_route}
 use Rattle.rules.specs.Cells.{routes_of, cells_before, cells, digit, rank, cell, round_of, unrank, route_at}
-use Rattle.rules.proofs.Counting.{by-test, count-up_to, length-keep, keep_append}
+use Rattle.rules.proofs.Counting.{by-test, bit-le-one, count-up_to, length-keep, keep_append}
 use Rattle.rules.proofs.Receivers.{path-next, size, level-size}
 use Rattle.rules.proofs.Numbering.{route-is, is-route, InRound, digit-receivers, cells-step, cells-ascend, cell-is, cell-in-round, cell-lt}
 use Rattle.rules.proofs.Ascending.{cell-injective}
@@ -45,14 +45,13 @@ nth : (P : ℕ → Bool) (n d : ℕ) → d < count P (up_to n) → Nth P n d (ge
 unfolding count up_to
 nth P zero d h = absurd (omega arith)
 nth P (suc n) d h =
-    by-test (ltb d (count P (up_to n)))
-    (λ (t : ltb d (count P (up_to n)) ≡ true). let b = ltb-true d (count P (up_to n)) t in rw (keep-first P n d b) (nth-later (nth P n d b)))
-    (λ (t : ltb d (count P (up_to n)) ≡ false).
-    let b = ltb-false d (count P (up_to n)) t in
-    let h' = rw count-up_to at h in
-    by-test (P n)
-    (λ (e : P n ≡ true). let k : d ≡ count P (up_to n) = omega (arith, rw e at h') in rw (keep-last P n d e k) (record { below = omega arith; passes = e; place = sym k }))
-    (λ (e : P n ≡ false). absurd (omega (arith, rw e at h'))))
+    ⊎_elim
+    (λ b. rw (keep-first P n d b) (nth-later (nth P n d b)))
+    (λ (b : count P (up_to n) ≤ d).
+    let e : P n ≡ true = grind (arith, count-up_to P n) in
+    let k : d ≡ count P (up_to n) = omega (arith, bit-le-one (P n), count-up_to P n) in
+    rw (keep-last P n d e k) (record { below = omega arith; passes = e; place = sym k }))
+    (cases_lt d (count P (up_to n)))
 
 -- ---- the route at a place among those of its length
 
@@ -98,10 +97,7 @@ unranked n sender node (suc k) c h =
 pub round-most : (n m c : ℕ) → round_of n m c ≤ m
 unfolding round_of
 round-most n zero c = omega arith
-round-most n (suc m) c =
-    by-test (ltb c (cells_before n (suc m)))
-    (λ (t : ltb c (cells_before n (suc m)) ≡ true). rw t (omega (arith, round-most n m c)))
-    (λ (t : ltb c (cells_before n (suc m)) ≡ false). rw t (omega arith))
+round-most n (suc m) c = grind (arith, round-most n m c)
 
 round-holds : (n m c : ℕ) → c < cells_before n (suc m) → InRound n (round_of n m c) c
 unfolding round_of cells_before
@@ -118,12 +114,7 @@ round-of n m c h = round-holds n m c (rw add-one at h)
 
 -- .. and in no other
 pub one-round : (n j k c : ℕ) → InRound n j c → InRound n k c → j ≡ k
-one-round n j k c a b = go (dec_lt j k) (dec_lt k j)
-  where
-    go : Dec (j < k) → Dec (k < j) → j ≡ k
-    go (yes d) e = absurd (omega (arith, cells-ascend n (suc j) k d, a, b))
-    go (no d) (yes e) = absurd (omega (arith, cells-ascend n (suc k) j e, a, b))
-    go (no d) (no e) = omega arith
+one-round n j k c a b = grind (arith, cells-ascend n (suc j) k, cells-ascend n (suc k) j)
 
 -- ---- both conversions undo each other
 

@@ -29,6 +29,8 @@ pub mod Cases
 pub mod Conditions
 pub mod Agreement
 pub mod Examples
+pub mod Numbers
+pub mod Exchanged
 pub mod Results
 pub mod Untied
 pub mod BoundUnread

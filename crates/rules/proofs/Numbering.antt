@@ -3,20 +3,19 @@
 -- Nothing here bounds n or the number of rounds; the sender is a node.
 use mathlib.Core.Path.{◌≡◌, refl, ◌∙◌}
 use mathlib.Core.Logic.{◌⊎◌, inl, inr}
-use mathlib.Core.Bool.{Bool, true, false, ◌&&◌}
+use mathlib.Core.Bool.{Bool, true}
 use mathlib.Core.List.{List, [], ◌∷◌}
 use Prim.Native.Nat.{ℕ, zero, suc, ◌+◌, ◌*◌, ◌-◌, ◌≤◌, ◌<◌}
 use native.Mathlib.Omega.{arith}
 use native.Mathlib.Nat.{mul-le-mul_right, suc-mul}
-use native.Mathlib.Decide.{dec_lt, ℕ_discrete}
 use native.Mathlib.Numerals.{sub-one}
 use lib.ListN.{length}
-use lib.Dec.{leb}
-use borrow.Author.Tests.{leb-true, leb-false, le-leb}
+use Rattle.std.proofs.lemmas.Bool.{cases_order}
+use Rattle.std.proofs.lemmas.Bool.Decides.{nat_tests}
 use Rattle.rules.specs.Lists.{count, up_to}
 use Rattle.rules.specs.Routes.{written, free, receiver, is_path, is_route}
 use Rattle.rules.specs.Cells.{routes_of, round_size, cells_before, cells, digit, rank, cell}
-use Rattle.rules.proofs.Counting.{by-test, count-up_to, and_left, and_right, and_both}
+use Rattle.rules.proofs.Counting.{count-up_to}
 use Rattle.rules.proofs.Receivers.{receiver-below, receiver-free, receiver-is-free, path-head, path-tail, size, level-size}
 use Rattle.rules.proofs.Order.{Before, before-rest, before_last}
 
@@ -32,27 +31,19 @@ module _ (n m sender : ℕ) (p : List ℕ) where
   pub route-is : is_route n m sender p ≡ true → RouteOf n m sender p
   unfolding is_route
   route-is r =
-      let lengths = and_left (leb 1 (length p) && leb (length p) (m + 1)) (is_path n sender p) r in
-      record {
-        some = leb-true 1 (length p) (and_left (leb 1 (length p)) (leb (length p) (m + 1)) lengths);
-        short = leb-true (length p) (m + 1) (and_right (leb 1 (length p)) (leb (length p) (m + 1)) lengths);
-        path = and_right (leb 1 (length p) && leb (length p) (m + 1)) (is_path n sender p) r;
-      }
+      record { some = grind (arith, nat_tests); short = grind (arith, nat_tests); path = grind (arith, nat_tests) }
 
   -- and they pass it
   pub is-route : RouteOf n m sender p → is_route n m sender p ≡ true
   unfolding is_route
-  is-route r = and_both (and_both (le-leb 1 (length p) r.some) (le-leb (length p) (m + 1) r.short)) r.path
+  is-route r = grind (arith, nat_tests)
 
 -- ---- digits
 
 -- what never falls from one number to the next never falls
 pub ascends : (f : ℕ → ℕ) → ((k : ℕ) → f k ≤ f (suc k)) → (a b : ℕ) → a ≤ b → f a ≤ f b
-ascends f step a zero h = let e : a ≡ 0 = omega arith in rw e (omega arith)
-ascends f step a (suc b) h =
-    by-test (leb a b)
-    (λ (t : leb a b ≡ true). omega (arith, step b, ascends f step a b (leb-true a b t)))
-    (λ (t : leb a b ≡ false). let e : a ≡ suc b = omega (arith, leb-false a b t) in rw e (omega arith))
+ascends f step a zero h = grind arith
+ascends f step a (suc b) h = grind (arith, step b, ascends f step a b)
 
 -- among more numbers as many pass a test, or more
 pub count-more : (P : ℕ → Bool) (a b : ℕ) → a ≤ b → count P (up_to a) ≤ count P (up_to b)
@@ -129,13 +120,13 @@ module _ (n sender : ℕ) (node : sender < n) where
   compared (a ∷ p) [] e P Q = absurd (omega arith)
   compared (a ∷ p) (b ∷ q) e P Q = go (compared p q (omega arith) (path-tail n sender p a P) (path-tail n sender q b Q))
     where
-      last : p ≡ q → Dec (a ≡ b) → Dec (a < b) → Compared n sender (a ∷ p) (b ∷ q)
-      last s (yes k) d = inl (cc)
-      last s (no k) (yes d) = inr (inl (rw (← s) (lower_last p a b d P)))
-      last s (no k) (no d) = inr (inr (rw s (lower_last q b a (omega arith) Q)))
+      last : p ≡ q → (a ≡ b) ⊎ ((a < b) ⊎ (b < a)) → Compared n sender (a ∷ p) (b ∷ q)
+      last s (inl k) = inl (cc)
+      last s (inr (inl d)) = inr (inl (rw (← s) (lower_last p a b d P)))
+      last s (inr (inr d)) = inr (inr (rw s (lower_last q b a d Q)))
 
       go : Compared n sender p q → Compared n sender (a ∷ p) (b ∷ q)
-      go (inl s) = last s (ℕ_discrete a b) (dec_lt a b)
+      go (inl s) = last s (cases_order a b)
       go (inr (inl l)) = inr (inl (lower-rest p q a b (omega arith) P l))
       go (inr (inr l)) = inr (inr (lower-rest q p b a (omega arith) Q l))
 

@@ -21,10 +21,7 @@ stands-one-way : (x y : List ℕ) → Stands x y → Stands y x → ⊥
 unfolding Stands
 stands-one-way [] y s t = s
 stands-one-way (a ∷ x) [] s t = s
-stands-one-way (a ∷ x) (b ∷ y) (inl h) (inl k) = omega arith
-stands-one-way (a ∷ x) (b ∷ y) (inl h) (inr k) = omega (arith, k.0)
-stands-one-way (a ∷ x) (b ∷ y) (inr h) (inl k) = omega (arith, h.0)
-stands-one-way (a ∷ x) (b ∷ y) (inr h) (inr k) = stands-one-way x y h.1 k.1
+stands-one-way (a ∷ x) (b ∷ y) h k = grind (arith, stands-one-way x y)
 
 -- not both ways, and so no row stands before itself
 pub before-one-way : {x y : List ℕ} → Before x y → Before y x → ⊥

@@ -1,20 +1,21 @@
 -- No word that is told to or decided by a fault-free node is reserved, if the sender's value is not.
 use mathlib.Core.Path.{◌≡◌, refl}
-use mathlib.Core.Bool.{Bool, true, false}
+use mathlib.Core.Bool.{Bool, true}
 use mathlib.Core.List.{List, [], ◌∷◌, map}
 use Prim.Native.Nat.{ℕ, zero, suc, ◌≤◌}
 use native.Mathlib.Omega.{arith}
-use lib.Dec.{ltb, leb}
-use borrow.Author.Tests.{ltb-false, leb-true, le-leb}
+use lib.Dec.{leb}
+use borrow.Author.Tests.{leb-true, le-leb}
+use Rattle.std.proofs.lemmas.Bool.Decides.{nat_tests}
 use Rattle.rules.specs.Lists.{all}
-use Rattle.rules.specs.Words.{word_at, reserved, plain, faulty}
-use Rattle.rules.specs.Routes.{receivers, teller}
+use Rattle.rules.specs.Words.{word_at, reserved, plain}
+use Rattle.rules.specs.Routes.{receivers}
 use Rattle.rules.specs.Cells.{cell}
 use Rattle.rules.specs.Vote.{vote}
 use Rattle.rules.specs.Delivered.{delivered}
 use Rattle.rules.specs.Decision.{via, threshold, byz, entries}
 use Rattle.rules.specs.declared.Settings.{Settings}
-use Rattle.rules.proofs.Counting.{by-test, and_both}
+use Rattle.rules.proofs.Counting.{and_both}
 use Rattle.rules.proofs.Voting.{vote-keeps}
 use Rattle.rules.proofs.Clauses.{byz-told, byz-votes}
 
@@ -25,10 +26,7 @@ ordinary w = leb w 65000
 -- what a word counts as is never reserved
 pub plain-ordinary : (w : ℕ) → plain w ≤ 65000
 unfolding plain reserved
-plain-ordinary w =
-    by-test (ltb 65000 w)
-    (λ (e : ltb 65000 w ≡ true). rw e (omega arith))
-    (λ (e : ltb 65000 w ≡ false). rw e (ltb-false 65000 w e))
+plain-ordinary w = grind (arith, nat_tests)
 
 all_map : (P : ℕ → Bool) (f : ℕ → ℕ) (L : List ℕ) → ((x : ℕ) → P (f x) ≡ true) → all P (map f L) ≡ true
 unfolding all
@@ -40,10 +38,7 @@ module _ (s : Settings) (table : List ℕ) (value : s.value ≤ 65000) where
   pub delivered-ordinary : (r : List ℕ) → delivered s table r ≤ 65000
   unfolding delivered
   delivered-ordinary [] = value
-  delivered-ordinary (i ∷ p) =
-      by-test (faulty s.faults (teller s.sender p))
-      (λ (e : faulty s.faults (teller s.sender p) ≡ true). rw e (plain-ordinary (word_at table (cell s.n s.sender (i ∷ p)))))
-      (λ (e : faulty s.faults (teller s.sender p) ≡ false). rw e (delivered-ordinary p))
+  delivered-ordinary (i ∷ p) = grind (arith, plain-ordinary (word_at table (cell s.n s.sender (i ∷ p))), delivered-ordinary p)
 
   pub entries-ordinary : (t : ℕ) (r : List ℕ) → ((k : List ℕ) → (byz s table t k).word ≤ 65000) → all ordinary (entries s table t r) ≡ true
   unfolding entries all

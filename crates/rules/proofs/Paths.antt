@@ -6,10 +6,8 @@ use mathlib.Core.List.{List, [], ◌∷◌}
 use Prim.Native.Nat.{ℕ, zero, suc, ◌+◌, ◌≤◌, ◌<◌}
 use native.Mathlib.Omega.{arith}
 use lib.ListN.{length, get_or}
-use lib.Dec.{eqb}
-use borrow.Author.Tests.{eqb-false, not-true}
+use Rattle.std.proofs.lemmas.Bool.Decides.{nat_tests}
 use Rattle.rules.specs.Routes.{free, receiver, is_path, is_route}
-use Rattle.rules.proofs.Counting.{and_left}
 use Rattle.rules.proofs.Receivers.{free-cons, free-tail, receiver-below, receiver-free, is-receiver, path-next, path-tail, path-head}
 use Rattle.rules.proofs.Numbering.{route-is, is-route}
 
@@ -29,7 +27,7 @@ pub record RouteFacts (n m sender : ℕ) (p : List ℕ) : Type 0 where
 free-differs : (p : List ℕ) (x : ℕ) → free p x ≡ true → (i : ℕ) → i < length p → x ≢ get_or p i 0
 unfolding free
 free-differs [] x h i b = absurd (omega arith)
-free-differs (a ∷ p) x h zero b = eqb-false x a (not-true (eqb x a) (and_left _ (free p x) h))
+free-differs (a ∷ p) x h zero b = grind (arith, nat_tests)
 free-differs (a ∷ p) x h (suc i) b = free-differs p x (free-tail a p x h) i (omega arith)
 
 differs-free : (p : List ℕ) (x : ℕ) → ((i : ℕ) → i < length p → x ≢ get_or p i 0) → free p x ≡ true

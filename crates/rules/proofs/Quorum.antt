@@ -8,7 +8,7 @@ use Prim.Native.Nat.{ℕ, ◌+◌, ◌*◌, ◌≤◌, ◌<◌}
 use native.Mathlib.Omega.{arith}
 use lib.ListN.{length}
 use lib.Dec.{eqb}
-use borrow.Author.Tests.{eqb-true, eqb-false}
+use Rattle.std.proofs.lemmas.Bool.{cases_eq}
 use Rattle.rules.specs.Lists.{count, up_to}
 use Rattle.rules.specs.Words.{faulty}
 use Rattle.rules.specs.Routes.{is_path, teller}
@@ -17,7 +17,6 @@ use Rattle.rules.specs.Vote.{vote}
 use Rattle.rules.specs.Decision.{nodes_at, threshold, poll}
 use Rattle.rules.specs.declared.Settings.{Settings}
 use Rattle.rules.specs.declared.Outcome.{Outcome}
-use Rattle.rules.proofs.Counting.{by-test}
 use Rattle.rules.proofs.Receivers.{size, level-size}
 use Rattle.rules.proofs.Voting.{vote-reaches, vote-wins, vote-counts}
 use Rattle.rules.proofs.Tally.{OrDefault, among-le, among_first, OneEach, each-size, tally-all, tally-none, Within, tally-two}
@@ -36,14 +35,7 @@ faults s = count (faulty s.faults) (up_to s.n)
 
 -- where every other value stays below the threshold, a vote gives a or the default
 vote-or-default : (q : ℕ) (xs : List ℕ) (a : ℕ) → ((v : ℕ) → v ≢ a → v ≢ 0 → count (eqb v) xs < q) → OrDefault (vote q xs).word a
-vote-or-default q xs a few = by-test (eqb w a) (λ e. inl (eqb-true w a e)) (λ na. by-test (eqb w 0) (λ e. inr (eqb-true w 0 e)) (λ nz. go na nz (vote-reaches q xs)))
-  where
-    w : ℕ
-    w = (vote q xs).word
-
-    go : eqb w a ≡ false → eqb w 0 ≡ false → (w ≡ 0) ⊎ (q ≤ count (eqb w) xs) → OrDefault w a
-    go na nz (inl z) = inr z
-    go na nz (inr r) = absurd (omega (arith, few w (eqb-false w a na) (eqb-false w 0 nz)))
+vote-or-default q xs a few = let w = (vote q xs).word in grind (arith, vote-reaches q xs, cases_eq w a, cases_eq w 0, few w)
 
 -- a fault-free node tells the word that it was told
 passed_on : (s : Settings) (table p : List ℕ) (i : ℕ) → faulty s.faults (teller s.sender p) ≡ false → delivered s table (i ∷ p) ≡ delivered s table p
@@ -114,7 +106,8 @@ module _ (s : Settings) (given : Assumed s) where
       → (i k : ℕ) → (poll s (i ∷ []) xs).word ≢ (poll s (k ∷ []) ys).word
       → ((poll s (i ∷ []) xs).word ≡ 0) ⊎ ((poll s (k ∷ []) ys).word ≡ 0)
   unfolding is_path
-  two-votes few f g e e' xs ys each each' h h' i k ne = go (vote-reaches (threshold s (i ∷ [])) xs) (vote-reaches (threshold s (k ∷ [])) ys)
+  two-votes few f g e e' xs ys each each' h h' i k ne =
+      grind (arith, vote-reaches (threshold s (i ∷ [])) xs, vote-reaches (threshold s (k ∷ [])) ys, cases_eq v 0, cases_eq w 0, clash)
     where
       v : ℕ
       v = (poll s (i ∷ []) xs).word
@@ -134,9 +127,3 @@ module _ (s : Settings) (given : Assumed s) where
             among_first s.n s.sender (faulty s.faults) given.sender-below f,
             tally-two s.n s.sender (faulty s.faults) [] g e e' xs ys each each' h h' v w ne nv nw,
           )
-
-      go : (v ≡ 0) ⊎ (threshold s (i ∷ []) ≤ count (eqb v) xs) → (w ≡ 0) ⊎ (threshold s (k ∷ []) ≤ count (eqb w) ys) → (v ≡ 0) ⊎ (w ≡ 0)
-      go (inl z) b = inl z
-      go (inr a) (inl z) = inr z
-      go (inr a) (inr b) = by-test (eqb v 0) (λ z. inl (eqb-true v 0 z))
-          (λ nv. by-test (eqb w 0) (λ z. inr (eqb-true w 0 z)) (λ nw. absurd (clash (eqb-false v 0 nv) (eqb-false w 0 nw) a b)))

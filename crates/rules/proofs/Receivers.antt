@@ -1,7 +1,7 @@
 -- Who may receive on top of a route, and how many they are at one level.
 use mathlib.Core.Path.{◌≡◌, refl, sym, ap, ◌∙◌}
 use mathlib.Core.Logic.{◌≢◌}
-use mathlib.Core.Bool.{Bool, true, false, not, ◌&&◌, and-true, and-false, true≢false}
+use mathlib.Core.Bool.{true, false, ◌&&◌, and-true, and-false, true≢false}
 use mathlib.Core.List.{List, [], ◌∷◌}
 use Prim.Native.Nat.{ℕ, zero, suc, ◌+◌, ◌≤◌, ◌<◌}
 use native.Mathlib.Omega.{arith}
@@ -10,7 +10,7 @@ use lib.Dec.{ltb, eqb}
 use borrow.Author.Tests.{eqb-false, eq-eqb, ne_eqb, ltb-true, lt-ltb}
 use Rattle.rules.specs.Lists.{count, up_to}
 use Rattle.rules.specs.Routes.{free, receiver, receivers, is_path, teller}
-use Rattle.rules.proofs.Counting.{count-up_to, length-keep, one_fewer, and_left, and_right, and_both, bools}
+use Rattle.rules.proofs.Counting.{count-up_to, length-keep, one_fewer, and_left, and_right, and_both}
 
 -- all of the numbers up to k, if k ≤ n, are below n
 count-below : (n k : ℕ) → k ≤ n → count (λ x. ltb x n) (up_to k) ≡ k
@@ -26,7 +26,7 @@ free-cons a p x ne h = rw (ne_eqb x a ne, h)
 
 pub free-tail : (a : ℕ) (p : List ℕ) (x : ℕ) → free (a ∷ p) x ≡ true → free p x ≡ true
 unfolding free
-free-tail a p x h = search bools
+free-tail a p x h = grind arith
 
 pub free_other : (a : ℕ) (p : List ℕ) (x : ℕ) → eqb a x ≡ false → free (a ∷ p) x ≡ free p x
 unfolding free
@@ -39,13 +39,7 @@ free-self a p = rw (eq-eqb a a refl)
 -- the order of two numbers in front does not matter
 pub free-swap : (a b : ℕ) (p : List ℕ) (x : ℕ) → free (a ∷ b ∷ p) x ≡ free (b ∷ a ∷ p) x
 unfolding free
-free-swap a b p x = go (eqb x a) (eqb x b)
-  where
-    go : (s t : Bool) → (not s && (not t && free p x)) ≡ (not t && (not s && free p x))
-    go true true = refl
-    go true false = refl
-    go false true = refl
-    go false false = refl
+free-swap a b p x = grind arith
 
 module _ (n sender : ℕ) where
   pub receiver-below : (p : List ℕ) (x : ℕ) → receiver n sender p x ≡ true → x < n

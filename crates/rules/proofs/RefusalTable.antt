@@ -1,22 +1,23 @@
 -- The table of what is turned away, in plain words: for each entry point its numbers in their order, and when each is given.
-use mathlib.Core.Path.{◌≡◌, refl, sym}
+use mathlib.Core.Path.{◌≡◌}
 use mathlib.Core.Logic.Iff
 use mathlib.Core.Logic.{◌⊎◌, inl, inr, ⊎_elim, ◌≢◌, ◌↔◌}
-use mathlib.Core.Bool.{Bool, true, false, not, ◌||◌, false≢true}
+use mathlib.Core.Bool.{Bool, true, false, not}
 use mathlib.Core.List.{List, [], ◌∷◌, ◌++◌}
 use Prim.Native.Nat.{ℕ, ◌+◌, ◌*◌, ◌/◌, ◌%◌, ◌^◌, ◌≤◌, ◌<◌}
 use native.Mathlib.Nat.{div-eq_of_lt, div-lt_iff_lt-mul}
 use native.Mathlib.Omega.{arith}
 use lib.Dec.{eqb, ltb, leb}
 use lib.Pow.{pow_pos}
-use borrow.Author.Tests.{eqb-true, eq-eqb, eqb-false, ne_eqb, ltb-true, lt-ltb, leb-true, le-leb, not-true, ltb-false}
+use borrow.Author.Tests.{leb-true, le-leb, not-true}
+use Rattle.std.proofs.lemmas.Bool.{cases_lt, not_from_false}
+use Rattle.std.proofs.lemmas.Bool.Decides.{Decides-or as either, Decides-ltb as below, Decides-eqb as equal, Decides-not}
 use Rattle.rules.specs.Words.{reserved}
 use Rattle.rules.specs.Routes.{is_route, held}
 use Rattle.rules.specs.Cells.{cells}
 use Rattle.rules.specs.Refusals.{Reason, because, wrong_nodes, wrong_rounds, low_bound, too_few, too_few_alone, no_sender, reserved_value, stray_fault, wrong_table, wrong_row, no_threshold, odd_list, no_route, no_cell, no_round, settings_reasons, exchange_reasons, layout_reasons, route_reasons, cell_reasons, part_reasons, vote_reasons}
 use Rattle.rules.specs.declared.Settings.{Settings}
 use Rattle.rules.specs.declared.Route as R
-use Rattle.rules.proofs.Counting.{by-test}
 use Rattle.rules.proofs.Refused.{Applies}
 use Rattle.rules.proofs.FaultWord.{BitFrom, bit-from}
 
@@ -52,25 +53,14 @@ says-when k (e ⨾ s) = (
 
 -- ---- each condition
 
-pub either : (a b : Bool) {A B : Type 0} → (a ≡ true) ↔ A → (b ≡ true) ↔ B → ((a || b) ≡ true) ↔ (A ⊎ B)
-either true b p q = (λ e. inl (p.0 refl), λ h. refl)
-either false b p q = (λ e. inr (q.0 e), ⊎_elim (λ h. absurd (false≢true (p.1 h))) q.1)
-
-pub below : (a b : ℕ) → (ltb a b ≡ true) ↔ (a < b)
-below a b = (ltb-true a b, lt-ltb a b)
-
 pub up-to : (a b : ℕ) → (leb a b ≡ true) ↔ (a ≤ b)
 up-to a b = (leb-true a b, le-leb a b)
 
-pub equal : (a b : ℕ) → (eqb a b ≡ true) ↔ (a ≡ b)
-equal a b = (eqb-true a b, eq-eqb a b)
-
 pub differs : (a b : ℕ) → (not (eqb a b) ≡ true) ↔ (a ≢ b)
-differs a b = (λ e. eqb-false a b (not-true (eqb a b) e), λ h. rw (ne_eqb a b h))
+differs a b = Decides-not (eqb a b) (equal a b)
 
 pub fails : (b : Bool) → (not b ≡ true) ↔ (b ≡ false)
-fails true = (λ e. sym e, λ e. sym e)
-fails false = (λ e. refl, λ e. refl)
+fails b = (not-true b, not_from_false b)
 
 nodes : (n : ℕ) → (wrong_nodes n ≡ true) ↔ ((n < 4) ⊎ (15 < n))
 unfolding wrong_nodes
@@ -83,7 +73,7 @@ rounds m = either (eqb m 0) (ltb 3 m) (equal m 0) (below 3 m)
 large : (n faults : ℕ) → (stray_fault n faults ≡ true) ↔ (2 ^ n ≤ faults)
 unfolding stray_fault
 large n faults = Iff.trans (differs (faults / 2 ^ n) 0) (
-  λ ne. by-test (ltb faults (2 ^ n)) (λ (e : ltb faults (2 ^ n) ≡ true). absurd (ne (div-eq_of_lt (ltb-true faults (2 ^ n) e)))) (ltb-false faults (2 ^ n)),
+  λ ne. ⊎_elim (λ h. absurd (ne (div-eq_of_lt h))) (λ h. h) (cases_lt faults (2 ^ n)),
   λ h e. absurd (omega (arith, (div-lt_iff_lt-mul {k = 2 ^ n} {x = faults} {y = 1} (pow_pos n)).0 (omega (arith, e)))),
 )
 

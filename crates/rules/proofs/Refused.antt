@@ -7,7 +7,8 @@ use mathlib.Core.List.{List, [], ◌∷◌, ◌++◌, map}
 use Prim.Native.Nat.{ℕ, ◌≤◌, ◌<◌}
 use native.Mathlib.Omega.{arith}
 use lib.Dec.{eqb, ltb, leb}
-use borrow.Author.Tests.{ltb-true, leb-true, ne_eqb}
+use borrow.Author.Tests.{ltb-true}
+use Rattle.std.proofs.lemmas.Bool.Decides.{nat_tests}
 use Rattle.rules.specs.Lists.{all}
 use Rattle.rules.specs.Refusals.{Reason, first, settings_reasons, exchange_reasons, layout_reasons, route_reasons, cell_reasons, part_reasons, vote_reasons, settings_refusal, exchange_refusal, route_refusal, cell_refusal, part_refusal, vote_refusal}
 use Rattle.rules.specs.declared.Settings.{Settings}
@@ -99,8 +100,7 @@ ascending-numbered : (j : ℕ) (l : List Reason) → ascending j (numbers l) ≡
 unfolding numbered
 ascending-numbered j [] up = refl
 ascending-numbered j (r ∷ rs) up =
-    rw (ne_eqb r.number 0 (λ z. omega (arith, ascending-head j r.number (numbers rs) up)))
-    (ascending-numbered r.number rs (ascending-tail j r.number (numbers rs) up))
+    grind (arith, nat_tests, ascending-head j r.number (numbers rs) up, ascending-numbered r.number rs (ascending-tail j r.number (numbers rs) up))
 
 -- so it is where the numbers ascend
 pub first-zero : (j : ℕ) (l : List Reason) → ascending j (numbers l) ≡ true → (first l ≡ 0) ↔ NoneApplies l
@@ -110,10 +110,7 @@ first-zero j l up = first-none l (ascending-numbered j l up)
 pub first-most : (b : ℕ) (l : List Reason) → all (λ k. leb k b) (numbers l) ≡ true → first l ≤ b
 unfolding first all
 first-most b [] h = omega arith
-first-most b (r ∷ rs) h =
-    by-test r.applies
-    (λ (y : r.applies ≡ true). rw y (leb-true r.number b (and_left (leb r.number b) (all (λ k. leb k b) (numbers rs)) h)))
-    (λ (y : r.applies ≡ false). rw y (first-most b rs (and_right (leb r.number b) (all (λ k. leb k b) (numbers rs)) h)))
+first-most b (r ∷ rs) h = grind (arith, nat_tests, first-most b rs)
 
 -- none of two lists applies: none of the one, and none of the other
 pub none-split : (k l : List Reason) → NoneApplies (k ++ l) → NoneApplies k × NoneApplies l
@@ -237,10 +234,7 @@ settings-most s = first-most 7 (settings_reasons s) refl
 pub front-stands : (l rest : List Reason) (k : ℕ) → k ≡ first l → k ≢ 0 → k ≡ first (l ++ rest)
 unfolding first
 front-stands [] rest k e some = absurd (some e)
-front-stands (r ∷ l) rest k e some =
-    by-test r.applies
-    (λ (y : r.applies ≡ true). rw y (rw y at e))
-    (λ (y : r.applies ≡ false). rw y (front-stands l rest k (rw y at e) some))
+front-stands (r ∷ l) rest k e some = grind (arith, front-stands l rest k)
 
 -- and where there is none, the second list decides
 pub rest-decides : (l rest : List Reason) (k : ℕ) → ascending 0 (numbers l) ≡ true → k ≡ first l → k ≡ 0 → first (l ++ rest) ≡ first rest

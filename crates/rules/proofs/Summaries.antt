@@ -1,60 +1,42 @@
 -- The summary of an exchange: its class as the paper says it, and that its numbers fit a word of a file.
 use mathlib.Core.Path.{◌≡◌, ap}
 use mathlib.Core.Logic.{◌↔◌}
-use mathlib.Core.Bool.{true, false}
 use mathlib.Core.List.{List, [], ◌∷◌, map, map-map}
 use Prim.Native.Nat.{ℕ, zero, suc, ◌*◌, ◌≤◌, ◌<◌}
 use native.Mathlib.Nat.{mul-le-mul_right, suc-mul}
 use native.Mathlib.Omega.{arith}
 use lib.ListN.{length}
-use lib.Dec.{leb}
-use borrow.Author.Tests.{leb-true, leb-false}
+use Rattle.std.proofs.lemmas.Bool.Decides.{nat_tests}
 use Rattle.rules.specs.Lists.{up_to, total}
 use Rattle.rules.specs.Routes.{receiver, receivers}
 use Rattle.rules.specs.Vote.{vote}
 use Rattle.rules.specs.Decision.{via, threshold, byz, entries, decision}
 use Rattle.rules.specs.Exchange.{class_of, slot, slots, tie_count}
 use Rattle.rules.specs.declared.Settings.{Settings}
-use Rattle.rules.proofs.Counting.{by-test, bit-le-one, count_most, length-up_to}
+use Rattle.rules.proofs.Counting.{bit-le-one, count_most, length-up_to}
 use Rattle.rules.proofs.Receivers.{size, length-receivers}
 use Rattle.rules.proofs.Accepted.{SettingsAccepted, layout_of}
 use Rattle.rules.proofs.Clauses.{byz-told, byz-ties}
 use Rattle.rules.proofs.Growth.{ties_most, ties-most}
-use Rattle.rules.proofs.Ties.{counts, counted, uncounted}
+use Rattle.rules.proofs.Ties.{counted, uncounted}
 
 -- ---- the class
 
 module _ (f m u : ℕ) where
-  -- the three cases that the definition tells apart
-  by-class : {C : Type 0} → (f ≤ m → class_of f m u ≡ 1 → C) → (m < f → f ≤ u → class_of f m u ≡ 2 → C) → (m < f → u < f → class_of f m u ≡ 3 → C) → C
-  unfolding class_of
-  by-class one two three =
-      by-test (leb f m)
-      (λ (a : leb f m ≡ true). one (leb-true f m a) (rw a))
-      (λ (a : leb f m ≡ false). by-test (leb f u)
-      (λ (b : leb f u ≡ true). two (leb-false f m a) (leb-true f u b) (rw (a, b)))
-      (λ (b : leb f u ≡ false). three (leb-false f m a) (leb-false f u b) (rw (a, b))))
-
   -- 1 exactly if f ≤ m
   pub class-one : (class_of f m u ≡ 1) ↔ (f ≤ m)
-  class-one = (
-    λ e. by-class (λ a c. a) (λ a b c. absurd (omega arith)) (λ a b c. absurd (omega arith)),
-    λ h. by-class (λ a c. c) (λ a b c. absurd (omega arith)) (λ a b c. absurd (omega arith)),
-  )
+  unfolding class_of
+  class-one = (λ e. grind (arith, nat_tests), λ h. grind (arith, nat_tests))
 
   -- 2 exactly if m < f ≤ u
   pub class-two : (class_of f m u ≡ 2) ↔ ((m < f) × (f ≤ u))
-  class-two = (
-    λ e. by-class (λ a c. absurd (omega arith)) (λ a b c. (a, b)) (λ a b c. absurd (omega arith)),
-    λ h. by-class (λ a c. absurd (omega arith)) (λ a b c. c) (λ a b c. absurd (omega arith)),
-  )
+  unfolding class_of
+  class-two = (λ e. (grind (arith, nat_tests), grind (arith, nat_tests)), λ h. grind (arith, nat_tests))
 
   -- 3 exactly if f > u, where u is not below m
   pub class-three : m ≤ u → (class_of f m u ≡ 3) ↔ (u < f)
-  class-three bound = (
-    λ e. by-class (λ a c. absurd (omega arith)) (λ a b c. absurd (omega arith)) (λ a b c. b),
-    λ h. by-class (λ a c. absurd (omega arith)) (λ a b c. absurd (omega arith)) (λ a b c. c),
-  )
+  unfolding class_of
+  class-three bound = (λ e. grind (arith, nat_tests), λ h. grind (arith, nat_tests))
 
 -- ---- the ties
 
@@ -86,10 +68,7 @@ module _ (s : Settings) (table : List ℕ) where
   -- and behind a slot
   pub slot-ties : (i : ℕ) → (slot s table i).ties ≤ ties_most s.n s.m
   unfolding decision
-  slot-ties i =
-      by-test (counts s i)
-      (λ (c : counts s i ≡ true). omega (arith, counted s table i c, ties-behind s.m (i ∷ [])))
-      (λ (c : counts s i ≡ false). omega (arith, uncounted s table i c))
+  slot-ties i = grind (arith, counted s table i, uncounted s table i, ties-behind s.m (i ∷ []))
 
   -- the count of ties is 3,615 at the most, and so fits a word
   pub ties-fit : SettingsAccepted s → tie_count s table ≤ 3615

@@ -1,17 +1,19 @@
 -- Counting at one level: a route p is given, its last number acts as sender, and every other node that may receive on top of p
 -- stands behind one entry of a list. Nothing here knows of a vote, of rounds or of how an entry came about.
 use mathlib.Core.Path.{◌≡◌, refl, sym, ap, ◌∙◌, fun_ext}
-use mathlib.Core.Logic.{◌⊎◌, inl, inr, ◌≢◌}
-use mathlib.Core.Bool.{Bool, true, false, ◌&&◌, cond, and-true, and-false}
+use mathlib.Core.Logic.{◌⊎◌, ◌≢◌}
+use mathlib.Core.Bool.{Bool, true, false, ◌&&◌, cond, and-true}
 use mathlib.Core.List.{List, [], ◌∷◌, map}
 use Prim.Native.Nat.{ℕ, ◌+◌, ◌≤◌, ◌<◌}
 use native.Mathlib.Omega.{arith}
 use lib.ListN.{length}
 use lib.Dec.{eqb}
-use borrow.Author.Tests.{eqb-true, eqb-false, eq-eqb, ne_eqb}
+use borrow.Author.Tests.{eqb-false, ne_eqb}
+use Rattle.std.proofs.lemmas.Bool.{true_from_ne_false}
+use Rattle.std.proofs.lemmas.Bool.Decides.{nat_tests}
 use Rattle.rules.specs.Lists.{bit, count, up_to}
 use Rattle.rules.specs.Routes.{receiver, receivers}
-use Rattle.rules.proofs.Counting.{by-test, bit_le, bit-or, count-le, count-cover, count-split, count-two-two, count_map, count-keep, complement, once, at-least-one-fewer, and_left, and_right, and_both, bools}
+use Rattle.rules.proofs.Counting.{count-le, count-cover, count-split, count-two-two, count_map, count-keep, complement, once, at-least-one-fewer, and_both}
 use Rattle.rules.proofs.Receivers.{receiver-below, receiver-self, receiver-other, receiver-next, receiver-tail, size}
 
 -- where a test fails everywhere it counts nothing
@@ -24,13 +26,6 @@ count_none (x ∷ L) = omega (arith, count_none L)
 once-if : (b : Bool) (j n : ℕ) → j < n → count (λ x. b && eqb j x) (up_to n) ≡ bit b
 once-if true j n h = once j n h
 once-if false j n h = count_none (up_to n)
-
--- one of two tests passes only where c does, and both only where d does too
-bit-two : (a b c d : Bool) → (a ≡ true → c ≡ true) → (b ≡ true → c ≡ true) → (a ≡ true → b ≡ true → d ≡ true) → bit a + bit b ≤ bit c + bit d
-bit-two true true c d ha hb hd = rw (ha refl, hd refl refl) (omega arith)
-bit-two true false c d ha hb hd = rw (ha refl) (omega arith)
-bit-two false true c d ha hb hd = rw (hb refl) (omega arith)
-bit-two false false c d ha hb hd = omega arith
 
 -- w is v, or the default
 abbrev pub OrDefault : ℕ → ℕ → Type 0
@@ -50,12 +45,12 @@ module _ (n sender : ℕ) where
     -- they are no more than all nodes of the kind
     pub among-le : (p : List ℕ) → among K p ≤ count K (up_to n)
     unfolding among
-    among-le p = count-le (λ x. receiver n sender p x && K x) K (up_to n) (λ x. bit_le (receiver n sender p x && K x) (K x) (and_right (receiver n sender p x) (K x)))
+    among-le p = count-le (λ x. receiver n sender p x && K x) K (up_to n) (λ x. grind arith)
 
     -- fewer, if the sender is one of the kind
     pub among_first : sender < n → K sender ≡ true → among K [] + 1 ≤ count K (up_to n)
     unfolding among
-    among_first b h = at-least-one-fewer (λ x. receiver n sender [] x && K x) K sender n b (rw (receiver-self n sender [])) h (λ x e. search bools)
+    among_first b h = at-least-one-fewer (λ x. receiver n sender [] x && K x) K sender n b (rw (receiver-self n sender [])) h (λ x e. grind arith)
 
     -- and where one of the kind acts next, the others have one fewer
     pub among_next : (p : List ℕ) (j : ℕ) → receiver n sender p j ≡ true → K j ≡ true → among K (j ∷ p) + 1 ≤ among K p
@@ -64,7 +59,7 @@ module _ (n sender : ℕ) where
         at-least-one-fewer (λ x. receiver n sender (j ∷ p) x && K x) (λ x. receiver n sender p x && K x) j n (receiver-below n sender p j r)
         (rw (receiver-self n sender (j ∷ p)))
         (and_both r h)
-        (λ x e. search (bools, receiver-tail))
+        (λ x e. grind (arith, receiver-tail n sender j p x))
 
   -- ---- one entry for each receiver
 
@@ -86,9 +81,7 @@ module _ (n sender : ℕ) where
       )
     where
       bits : (j : ℕ) → bit (receiver n sender p j && P (entry i own others j)) ≡ bit (receiver n sender (i ∷ p) j && P (others j)) + bit (P own && eqb i j)
-      bits j = by-test (eqb i j)
-          (λ (e : eqb i j ≡ true). rw (e, ← eqb-true i j e, r, receiver-self n sender (i ∷ p), and-true) (omega arith))
-          (λ (e : eqb i j ≡ false). rw (e, receiver-other n sender i p j e, and-false) (omega arith))
+      bits j = grind (arith, nat_tests, receiver-self n sender (i ∷ p), receiver-other n sender i p j)
 
   -- there are as many as receivers
   pub each-size : (p : List ℕ) (e : ℕ → ℕ) (xs : List ℕ) → OneEach p e xs → length xs ≡ size n sender p
@@ -109,9 +102,7 @@ module _ (n sender : ℕ) where
   each-alike p e e' xs ys each each' h P = each P ∙ ap (λ Q. count Q (up_to n)) (fun_ext same) ∙ sym (each' P)
     where
       same : (j : ℕ) → (receiver n sender p j && P (e j)) ≡ (receiver n sender p j && P (e' j))
-      same j = by-test (receiver n sender p j)
-          (λ (r : receiver n sender p j ≡ true). rw (h j r))
-          (λ (r : receiver n sender p j ≡ false). rw r)
+      same j = grind (arith, h j)
 
   -- ---- what can be counted where the entries for fault-free receivers are known
 
@@ -131,11 +122,11 @@ module _ (n sender : ℕ) where
         → size n sender p ≤ among faulty p + count (eqb a) xs
     unfolding size among
     tally-all a h = rw (each (eqb a))
-        (count-cover (receiver n sender p) (λ j. receiver n sender p j && faulty j) (λ j. receiver n sender p j && eqb a (e j)) (up_to n) bits)
+        (count-cover (receiver n sender p) (λ j. receiver n sender p j && faulty j) (λ j. receiver n sender p j && eqb a (e j)) (up_to n)
+        (λ j. grind (arith, nat_tests, known j)))
       where
-        bits : (j : ℕ) → bit (receiver n sender p j) ≤ bit (receiver n sender p j && faulty j) + bit (receiver n sender p j && eqb a (e j))
-        bits j = bit-or (receiver n sender p j) (receiver n sender p j && faulty j) (receiver n sender p j && eqb a (e j))
-            (λ r ok. and_both r (eq-eqb a (e j) (sym (h j (record { receives = r; sound = rw r at ok })))))
+        known : (j : ℕ) → receiver n sender p j ≡ true → faulty j ≡ false → e j ≡ a
+        known j r ok = h j (record { receives = r; sound = ok })
 
     -- none of them is v: at most the faulty count for v
     pub tally-none : (v : ℕ) → ((j : ℕ) → FaultFree faulty p j → e j ≢ v)
@@ -143,9 +134,10 @@ module _ (n sender : ℕ) where
     unfolding among
     tally-none v h = rw (each (eqb v))
         (count-le (λ j. receiver n sender p j && eqb v (e j)) (λ j. receiver n sender p j && faulty j) (up_to n)
-        (λ j. bit_le (receiver n sender p j && eqb v (e j)) (receiver n sender p j && faulty j) (λ k. by-test (faulty j)
-        (λ (f : faulty j ≡ true). and_both (and_left (receiver n sender p j) (eqb v (e j)) k) f)
-        (λ (f : faulty j ≡ false). absurd (h j (record { receives = and_left (receiver n sender p j) (eqb v (e j)) k; sound = f }) (sym (eqb-true v (e j) (and_right (receiver n sender p j) (eqb v (e j)) k))))))))
+        (λ j. grind (arith, nat_tests, known j)))
+      where
+        known : (j : ℕ) → receiver n sender p j ≡ true → faulty j ≡ false → e j ≢ v
+        known j r ok = h j (record { receives = r; sound = ok })
 
   -- In two lists the entry for a fault-free receiver j is g j, or the default. Two different values, neither the default, count
   -- together no more than the receivers, and the faulty once more: no fault-free receiver's entries serve both.
@@ -159,17 +151,9 @@ module _ (n sender : ℕ) where
     unfolding size among
     tally-two e e' xs ys each each' h h' v w ne nv nw = rw (each (eqb v), each' (eqb w))
         (count-two-two (λ j. receiver n sender p j && eqb v (e j)) (λ j. receiver n sender p j && eqb w (e' j))
-        (receiver n sender p) (λ j. receiver n sender p j && faulty j) (up_to n)
-        (λ j. bit-two (receiver n sender p j && eqb v (e j)) (receiver n sender p j && eqb w (e' j)) (receiver n sender p j) (receiver n sender p j && faulty j)
-        (and_left (receiver n sender p j) (eqb v (e j)))
-        (and_left (receiver n sender p j) (eqb w (e' j)))
-        (λ a b. search (bools, both))))
+        (receiver n sender p) (λ j. receiver n sender p j && faulty j) (up_to n) (λ j. grind (arith, both j)))
       where
         -- an entry is a value other than the default only where g is that value
-        is : {a x y : ℕ} → a ≢ 0 → a ≡ x → OrDefault x y → a ≡ y
-        is na q (inl k) = q ∙ k
-        is na q (inr k) = absurd (na (q ∙ k))
-
         both : (j : ℕ) → receiver n sender p j ≡ true → eqb v (e j) ≡ true → eqb w (e' j) ≡ true → faulty j ≡ true
-        both j r q q' = by-test (faulty j) (λ f. f) (λ (f : faulty j ≡ false). let ff : FaultFree faulty p j = record { receives = r; sound = f } in
-            absurd (ne (is nv (eqb-true v (e j) q) (h j ff) ∙ sym (is nw (eqb-true w (e' j) q') (h' j ff)))))
+        both j r q q' = true_from_ne_false (faulty j) (λ f. let ff : FaultFree faulty p j = record { receives = r; sound = f } in
+            grind (arith, nat_tests, h j ff, h' j ff))

@@ -1,7 +1,7 @@
 -- The count of ties: the votes behind the decisions of fault-free receivers that met a tie, and no others. A faulty node's votes do
 -- not count, and a sender has none.
 use mathlib.Core.Path.{◌≡◌, refl, ap, ◌∙◌}
-use mathlib.Core.Bool.{Bool, true, false, not, ◌&&◌, true≢false, false≢true}
+use mathlib.Core.Bool.{Bool, true, false, not, ◌&&◌}
 use mathlib.Core.List.{List, [], ◌∷◌, map, map-map}
 use Prim.Native.Nat.{ℕ}
 use native.Mathlib.Omega.{arith}
@@ -11,7 +11,7 @@ use Rattle.rules.specs.Words.{faulty}
 use Rattle.rules.specs.Decision.{decision}
 use Rattle.rules.specs.Exchange.{slot, slots, tie_count}
 use Rattle.rules.specs.declared.Settings.{Settings}
-use Rattle.rules.proofs.Counting.{by-test, map-keep}
+use Rattle.rules.proofs.Counting.{map-keep}
 
 -- ---- sums
 
@@ -25,10 +25,7 @@ total-bits P (x ∷ L) = omega (arith, total-bits P L)
 total-keep : (g : ℕ → ℕ) (R : ℕ → Bool) (L : List ℕ) → ((x : ℕ) → R x ≡ false → g x ≡ 0) → total (map g L) ≡ total (map g (keep R L))
 unfolding total keep
 total-keep g R [] h = refl
-total-keep g R (x ∷ L) h =
-    by-test (R x)
-    (λ (e : R x ≡ true). rw e (omega (arith, total-keep g R L h)))
-    (λ (e : R x ≡ false). rw e (omega (arith, h x e, total-keep g R L h)))
+total-keep g R (x ∷ L) h = grind (arith, h x, total-keep g R L h)
 
 -- ---- whose votes count
 
@@ -44,20 +41,12 @@ module _ (s : Settings) (table : List ℕ) where
   -- behind any other node's slot there is none
   pub uncounted : (i : ℕ) → counts s i ≡ false → (slot s table i).ties ≡ 0
   unfolding slot
-  uncounted i h =
-      by-test (faulty s.faults i) (λ (f : faulty s.faults i ≡ true). rw f)
-      (λ (f : faulty s.faults i ≡ false). by-test (eqb i s.sender)
-      (λ (e : eqb i s.sender ≡ true). rw (f, e))
-      (λ (e : eqb i s.sender ≡ false). absurd (true≢false (rw (f, e) at h))))
+  uncounted i h = grind arith
 
   -- behind theirs there are those of the decision
   pub counted : (i : ℕ) → counts s i ≡ true → (slot s table i).ties ≡ (decision s table i).ties
   unfolding slot
-  counted i h =
-      by-test (faulty s.faults i) (λ (f : faulty s.faults i ≡ true). absurd (false≢true (rw f at h)))
-      (λ (f : faulty s.faults i ≡ false). by-test (eqb i s.sender)
-      (λ (e : eqb i s.sender ≡ true). absurd (false≢true (rw (f, e) at h)))
-      (λ (e : eqb i s.sender ≡ false). rw (f, e)))
+  counted i h = grind arith
 
   -- the ties behind the decisions of the fault-free receivers, added up; what stands behind one is `byz-ties`, level by level
   pub ties-counted : tie_count s table ≡ total (map (λ i. (decision s table i).ties) (sound_receivers s))

@@ -86,10 +86,7 @@ module _ (s : Settings) (node : s.sender < s.n) (t t' : List ℕ) (agree : Agree
 
   slot_same : (i : ℕ) → i < s.n → slot s t i ≡ slot s t' i
   unfolding slot free
-  slot_same i below =
-      by-test (eqb i s.sender)
-      (λ (e : eqb i s.sender ≡ true). rw e)
-      (λ (e : eqb i s.sender ≡ false). rw (decision-same i (is-receiver s.n s.sender [] i below (rw e))))
+  slot_same i below = grind (arith, is-receiver s.n s.sender [] i below, decision-same i)
 
   slots_same : slots s t ≡ slots s t'
   unfolding slots

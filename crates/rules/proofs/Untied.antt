@@ -1,20 +1,18 @@
 -- No vote of an accepted exchange ties: at every level the threshold is above half of the entries, so two values cannot both reach it.
-use mathlib.Core.Path.{◌≡◌, refl, sym, ◌∙◌}
+use mathlib.Core.Path.{◌≡◌, refl}
 use mathlib.Core.Bool.{Bool, true, false}
 use mathlib.Core.List.{List, [], ◌∷◌, map, map-map}
 use Prim.Native.Nat.{ℕ, zero, suc, ◌+◌, ◌≤◌, ◌<◌}
 use native.Mathlib.Omega.{arith}
 use lib.ListN.{length}
-use lib.Dec.{eqb}
-use borrow.Author.Tests.{eqb-true, ne_eqb}
+use Rattle.std.proofs.lemmas.Bool.{false_from_ne_true}
 use Rattle.rules.specs.Lists.{keep, up_to, total}
-use Rattle.rules.specs.Words.{faulty}
 use Rattle.rules.specs.Routes.{free, receiver, receivers, is_path}
 use Rattle.rules.specs.Vote.{vote}
 use Rattle.rules.specs.Decision.{via, nodes_at, threshold, byz, entries, decision}
 use Rattle.rules.specs.Exchange.{slot, slots, tie_count}
 use Rattle.rules.specs.declared.Settings.{Settings}
-use Rattle.rules.proofs.Counting.{by-test, count-two, map-append, total-snoc}
+use Rattle.rules.proofs.Counting.{count-two, map-append, total-snoc}
 use Rattle.rules.proofs.Voting.{Tied, vote-tie}
 use Rattle.rules.proofs.Accepted.{SettingsAccepted}
 use Rattle.rules.proofs.Receivers.{is-receiver, path-next}
@@ -23,26 +21,16 @@ use Rattle.rules.proofs.Clauses.{byz-told, byz-ties, entries-count}
 
 -- above half of its entries a vote does not tie
 pub vote-untied : (q : ℕ) (xs : List ℕ) → 1 ≤ q → length xs < q + q → (vote q xs).tie ≡ false
-vote-untied q xs pos short = by-test (vote q xs).tie (λ (e : (vote q xs).tie ≡ true). absurd (clash ((vote-tie q xs pos).0 e))) (λ (e : (vote q xs).tie ≡ false). e)
+vote-untied q xs pos short = false_from_ne_true (vote q xs).tie (λ e. clash ((vote-tie q xs pos).0 e))
   where
     clash : Tied q xs → ⊥
-    clash t =
-        omega (
-          arith,
-          short,
-          t.one-reaches,
-          t.other-reaches,
-          count-two (eqb t.one) (eqb t.other) xs (λ x k. ne_eqb t.other x (λ d. t.differ (eqb-true t.one x k ∙ sym d))),
-        )
+    clash t = omega (arith, short, t.one-reaches, t.other-reaches, count-two t.one t.other xs t.differ)
 
 -- a sum of nothing
 total-none : (f : ℕ → ℕ) (R : ℕ → Bool) (L : List ℕ) → ((x : ℕ) → R x ≡ true → f x ≡ 0) → total (map f (keep R L)) ≡ 0
 unfolding total keep
 total-none f R [] h = refl
-total-none f R (x ∷ L) h =
-    by-test (R x)
-    (λ (e : R x ≡ true). rw e (omega (arith, h x e, total-none f R L h)))
-    (λ (e : R x ≡ false). rw e (total-none f R L h))
+total-none f R (x ∷ L) h = grind (arith, h x, total-none f R L h)
 
 -- what adds nothing below n adds nothing over the numbers below n
 total-below : (f : ℕ → ℕ) (n : ℕ) → ((i : ℕ) → i < n → f i ≡ 0) → total (map f (up_to n)) ≡ 0
@@ -70,13 +58,7 @@ module _ (s : Settings) (ok : SettingsAccepted s) (table : List ℕ) where
 
   slot-untied : (i : ℕ) → i < s.n → (slot s table i).ties ≡ 0
   unfolding slot free decision is_path
-  slot-untied i below =
-      by-test (faulty s.faults i)
-      (λ (f : faulty s.faults i ≡ true). rw f)
-      (λ (f : faulty s.faults i ≡ false). by-test (eqb i s.sender)
-      (λ (e : eqb i s.sender ≡ true). rw (f, e))
-      (λ (e : eqb i s.sender ≡ false).
-      rw (f, e, byz-untied s.m (i ∷ []) (path-next s.n s.sender [] i (is-receiver s.n s.sender [] i below (rw e)) refl) (omega arith))))
+  slot-untied i below = grind (arith, is-receiver s.n s.sender [] i below, path-next s.n s.sender [] i, byz-untied s.m (i ∷ []))
 
   -- the tie word of every accepted exchange is 0
   pub untied : tie_count s table ≡ 0

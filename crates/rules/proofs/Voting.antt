@@ -7,12 +7,13 @@ use mathlib.Core.List.{List, [], ◌∷◌}
 use Prim.Native.Nat.{ℕ, zero, suc, ◌+◌, ◌≤◌, ◌<◌}
 use native.Mathlib.Omega.{arith}
 use lib.ListN.{length}
-use lib.Dec.{leb, eqb}
-use borrow.Author.Tests.{eqb-true, eqb-false, eq-eqb, ne_eqb, leb-true, leb-false, le-leb, lt-leb}
+use lib.Dec.{eqb}
+use borrow.Author.Tests.{eqb-false, eq-eqb, leb-true, le-leb, lt-leb}
+use Rattle.std.proofs.lemmas.Bool.Decides.{nat_tests}
 use Rattle.rules.specs.Lists.{count, keep, all}
 use Rattle.rules.specs.Vote.{reaches, settle, vote}
 use Rattle.rules.specs.declared.Outcome.{Outcome}
-use Rattle.rules.proofs.Counting.{by-test, bit_le, count-le, count-two, count-keep, complement, keep-none, all_keep, all-le, and_left, and_right, and_both}
+use Rattle.rules.proofs.Counting.{by-test, count-le, count-two, count-keep, complement, keep-none, all_keep, all-le, and_left, and_right, and_both}
 
 -- ---- what is said of a value, and of two
 
@@ -61,37 +62,30 @@ stays q xs v pos r =
     omega (
       arith,
       count-keep (eqb v) (reaches q xs) xs,
-      count-le (eqb v) (λ x. reaches q xs x && eqb v x) xs
-          (λ x. bit_le (eqb v x) (reaches q xs x && eqb v x) (λ e. and_both {a = reaches q xs x} (rw (← eqb-true v x e) (reaches-is q xs v r)) e)),
+      count-le (eqb v) (λ x. reaches q xs x && eqb v x) xs (λ x. grind (arith, nat_tests, reaches-is q xs v r)),
     )
 
 -- a value found in a list of one value is that value
 same-value : (a : ℕ) (ws : List ℕ) (x : ℕ) → all (eqb a) ws ≡ true → 1 ≤ count (eqb x) ws → x ≡ a
-unfolding count
+unfolding count all
 same-value a [] x h some = absurd (omega arith)
-same-value a (w ∷ ws) x h some =
-    by-test (eqb x w)
-    (λ (e : eqb x w ≡ true). eqb-true x w e ∙ sym (eqb-true a w (all_head (eqb a) w ws h)))
-    (λ (e : eqb x w ≡ false). same-value a ws x (all_tail (eqb a) w ws h) (omega (arith, rw e at some)))
+same-value a (w ∷ ws) x h some = grind (arith, nat_tests, same-value a ws x)
 
 self-value : (a : ℕ) (ws : List ℕ) → all (eqb a) ws ≡ true → all (eqb a) (a ∷ ws) ≡ true
 unfolding all
 self-value a ws h = and_both (eq-eqb a a refl) h
 
 settle-only : (v : ℕ) (ws : List ℕ) → all (eqb v) ws ≡ true → 1 ≤ count (eqb v) ws → settle ws ≡ record { word = v; tie = false }
-unfolding settle count
+unfolding settle count all
 settle-only v [] h some = absurd (omega arith)
-settle-only v (a ∷ ws) h some = rw (← eqb-true v a (all_head (eqb v) a ws h), all_tail (eqb v) a ws h)
+settle-only v (a ∷ ws) h some = grind (arith, nat_tests)
 
 settle-tied : (v w : ℕ) (ws : List ℕ) → v ≢ w → 1 ≤ count (eqb v) ws → 1 ≤ count (eqb w) ws → settle ws ≡ record { word = 0; tie = true }
 unfolding settle count
 settle-tied v w [] ne hv hw = absurd (omega arith)
 settle-tied v w (a ∷ ws) ne hv hw =
-    by-test (all (eqb a) ws)
-    (λ (e : all (eqb a) ws ≡ true).
-    let h = self-value a ws e in
-    absurd (ne (same-value a (a ∷ ws) v h hv ∙ sym (same-value a (a ∷ ws) w h hw))))
-    (λ (e : all (eqb a) ws ≡ false). rw e)
+    let other : all (eqb a) ws ≡ false = grind (arith, self-value a ws, same-value a (a ∷ ws) v, same-value a (a ∷ ws) w) in
+    rw other
 
 -- ---- the three answers
 
@@ -169,8 +163,8 @@ unfolding all
 failing P Q [] h k = absurd (true≢false h)
 failing P Q (w ∷ ws) h k =
     by-test (P w)
-    (λ (e : P w ≡ true). failing P Q ws (rw e at h) (all_tail Q w ws k))
-    (λ (e : P w ≡ false). record { entry = w; fails = e; passes = all_head Q w ws k })
+    (λ (e : P w ≡ true). failing P Q ws (rw e at h) (and_right (Q w) (all Q ws) k))
+    (λ (e : P w ≡ false). record { entry = w; fails = e; passes = and_left (Q w) (all Q ws) k })
 
 -- and always one of them
 pub turnout : (q : ℕ) (xs : List ℕ) → 1 ≤ q → Turnout q xs
@@ -178,9 +172,7 @@ unfolding count
 turnout q xs pos = go (keep (reaches q xs) xs) (all_keep (reaches q xs) xs) (λ v. stays q xs v pos)
   where
     go : (ws : List ℕ) → all (reaches q xs) ws ≡ true → ((v : ℕ) → Reaches q xs v → 1 ≤ count (eqb v) ws) → Turnout q xs
-    go [] h in' = none (λ v. by-test (leb q (count (eqb v) xs))
-        (λ (e : leb q (count (eqb v) xs) ≡ true). absurd (omega (arith, in' v (leb-true q (count (eqb v) xs) e))))
-        (λ (e : leb q (count (eqb v) xs) ≡ false). leb-false q (count (eqb v) xs) e))
+    go [] h in' = none (λ v. grind (arith, in' v))
     go (a ∷ ws) h in' =
         let ra = reaches-true q xs a (all_head (reaches q xs) a ws h) in
         by-test (all (eqb a) ws)
@@ -223,29 +215,18 @@ vote-reaches (suc q) xs = go (turnout (suc q) xs (omega arith))
 
 -- where fewer than q + q entries stand, a value that reaches the threshold is what the vote gives
 pub vote-wins : (q : ℕ) (xs : List ℕ) (v : ℕ) → 1 ≤ q → length xs < q + q → Reaches q xs v → (vote q xs).word ≡ v
-vote-wins q xs v pos short r = ap (λ o. o.word) (vote-only q xs v pos (record { reached = r; only = alike }))
-  where
-    alike : (w : ℕ) → Reaches q xs w → w ≡ v
-    alike w rw' =
-        by-test (eqb v w) (λ (e : eqb v w ≡ true). sym (eqb-true v w e))
-        (λ (e : eqb v w ≡ false). absurd (omega (arith, count-two (eqb v) (eqb w) xs (λ x ev. ne_eqb w x (λ ew. eqb-false v w e (eqb-true v x ev ∙ sym ew))))))
+vote-wins q xs v pos short r = ap (λ o. o.word) (vote-only q xs v pos (record { reached = r; only = λ w also. grind (arith, count-two w v xs) }))
 
 -- what is so of every entry is so of those that are kept
 all-kept : (P R : ℕ → Bool) (xs : List ℕ) → all P xs ≡ true → all P (keep R xs) ≡ true
 unfolding all keep
 all-kept P R [] h = refl
-all-kept P R (x ∷ xs) h =
-    by-test (R x)
-    (λ (e : R x ≡ true). rw e (and_both (all_head P x xs h) (all-kept P R xs (all_tail P x xs h))))
-    (λ (e : R x ≡ false). rw e (all-kept P R xs (all_tail P x xs h)))
+all-kept P R (x ∷ xs) h = grind (arith, all-kept P R xs)
 
 settle-keeps : (P : ℕ → Bool) (ws : List ℕ) → P 0 ≡ true → all P ws ≡ true → P (settle ws).word ≡ true
-unfolding settle
+unfolding settle all
 settle-keeps P [] z h = z
-settle-keeps P (w ∷ ws) z h =
-    by-test (all (eqb w) ws)
-    (λ (e : all (eqb w) ws ≡ true). rw e (all_head P w ws h))
-    (λ (e : all (eqb w) ws ≡ false). rw e z)
+settle-keeps P (w ∷ ws) z h = grind arith
 
 -- a vote gives the default or one of the entries: what is so of these is so of its value
 pub vote-keeps : (P : ℕ → Bool) (q : ℕ) (xs : List ℕ) → P 0 ≡ true → all P xs ≡ true → P (vote q xs).word ≡ true

@@ -8,9 +8,10 @@ use native.Mathlib.Omega.{arith}
 use lib.ListN.{length, length-map, length-set, get_or, set}
 use lib.Seq.{get_or-set_same, get_or-set_other}
 use borrow.Author.Tests.{lt-ltb, le-ltb}
+use Rattle.std.proofs.lemmas.List.{get_or-map}
 use Rattle.rules.specs.Lists.{up_to}
 use Rattle.rules.specs.Words.{word_at, reserved, plain, words_of, bytes_of, put_word}
-use Rattle.rules.proofs.Counting.{length-up_to, nth-up_to, nth-map}
+use Rattle.rules.proofs.Counting.{length-up_to, nth-up_to}
 
 -- ---- words as bytes
 
@@ -58,7 +59,7 @@ words_count bytes = rw length-map (length-up_to (length bytes / 2))
 pub words-at : (bytes : List ℕ) (c : ℕ) → c < length bytes / 2 → get_or (words_of bytes) c 0 ≡ plain (word_at bytes c)
 unfolding words_of
 words-at bytes c h =
-    nth-map (λ k. plain (word_at bytes k)) (up_to (length bytes / 2)) c 0 0 (omega (arith, length-up_to (length bytes / 2)))
+    get_or-map (λ k. plain (word_at bytes k)) (up_to (length bytes / 2)) c 0 0 (omega (arith, length-up_to (length bytes / 2)))
     ∙ rw (nth-up_to (length bytes / 2) c h)
 
 -- ---- a word put into a place

@@ -6,5 +6,6 @@ pub mod Delivered
 pub mod Vote
 pub mod Decision
 pub mod Refusals
+pub mod Numbers
 pub mod Exchange
 pub mod Answers

@@ -6,16 +6,16 @@ use Prim.Native.Nat.{ℕ}
 use native.Mathlib.Omega.{arith}
 use lib.ListN.{length}
 use lib.Dec.{eqb}
-use borrow.Author.Tests.{eqb-true, eqb-false, not-true}
+use Rattle.std.proofs.lemmas.Bool.Decides.{nat_tests}
+use Rattle.std.proofs.lemmas.List.{nil_from_length}
 use Rattle.rules.specs.Refusals.{first, settings_refusal}
-use Rattle.rules.proofs.Counting.{by-test}
 use Rattle.scenario.specs.Hex.{frame_of}
 use Rattle.scenario.specs.Lines.{lines_of, rest_of}
 use Rattle.scenario.specs.Reasons.{Desk, stage_of, stopped, line_refusal}
 use Rattle.scenario.specs.Judging.{after, opened, told, closed, refused_with, judged, judged_all}
 use Rattle.scenario.specs.File.{fresh, begun, file_judged, cut_short, end_reasons, end_refusal, file_refusal}
 use Rattle.scenario.specs.declared.Reader.{Reader}
-use Rattle.scenario.proofs.Outcomes.{Opens, Tells, Closes, Outcome, stays, refuses, opens, tells, closes, outcome}
+use Rattle.scenario.proofs.Outcomes.{Opens, Tells, Closes, stays, refuses, opens, tells, closes, outcome}
 use Rattle.scenario.proofs.Pieces.{all-stopped}
 use Rattle.scenario.proofs.FromStart.{stage-first, settings-known}
 use Rattle.scenario.proofs.LineTable.{stage-said}
@@ -41,55 +41,36 @@ refused-stops d line e = ap not e
 -- after the `03` line no line is accepted
 pub nothing-after : (d : Desk) (lines : List (List ℕ)) → stage_of d.reader ≡ 2 → Complete (judged_all d lines) → lines ≡ []
 nothing-after d [] two end = refl
-nothing-after d (line ∷ lines) two end = by (outcome d line)
-  where
-    by : Outcome d line → line ∷ lines ≡ []
-    by (stays e to) = absurd (stuck (judged d line) lines (rw to e) end)
-    by (refuses e k to) = absurd (stuck (judged d line) lines (rw to (refused-stops d line k)) end)
-    by (opens e o to) = absurd (omega (arith, o.place))
-    by (tells e t to) = absurd (omega (arith, t.place))
-    by (closes e c to) = absurd (omega (arith, c.place))
+nothing-after d (line ∷ lines) two end = elim (outcome d line) [
+  | stays e to ↦ absurd (stuck (judged d line) lines (rw to e) end)
+  | refuses e k to ↦ absurd (stuck (judged d line) lines (rw to (refused-stops d line k)) end)
+  | opens e o to ↦ absurd (omega (arith, o.place))
+  | tells e t to ↦ absurd (omega (arith, t.place))
+  | closes e c to ↦ absurd (omega (arith, c.place))
+]
 
 -- from the `01` line on
 run : (d : Desk) (lines : List (List ℕ)) → stage_of d.reader ≡ 1 → Complete (judged_all d lines) → Run d lines (judged_all d lines)
 unfolding told closed after
 run d [] one end = absurd (omega (arith, end.stage))
-run d (line ∷ lines) one end = by (outcome d line) (λ one'. run (judged d line) lines one' end)
-  where
-    known : settings_refusal d.reader.settings ≡ 0
-    known = settings-known d.reader (omega arith)
-
-    end-at : {e : Desk} → judged d line ≡ e → Complete (judged_all e lines)
-    end-at to = rw to at end
-
-    alone : judged d line ≡ closed d → Closes d (frame_of line) → lines ≡ [] → Run d (line ∷ lines) (judged_all (judged d line) lines)
-    alone to c none = rw (none, to) (last c)
-
-    by : Outcome d line
-        → (stage_of (judged d line).reader ≡ 1 → Run (judged d line) lines (judged_all (judged d line) lines))
-        → Run d (line ∷ lines) (judged_all (judged d line) lines)
-    by (stays e to) rest = absurd (stuck (judged d line) lines (rw to e) end)
-    by (refuses e k to) rest = absurd (stuck (judged d line) lines (rw to (refused-stops d line k)) end)
-    by (opens e o to) rest = absurd (omega (arith, o.place))
-    by (tells e t to) rest =
-        rw to (next t (rw to at (rest (rw to (stage-said (told d (frame_of line)).reader known (omega arith))))))
-    by (closes e c to) rest = alone to c (nothing-after (closed d) lines (stage-said (closed d).reader known (omega arith)) (end-at to))
+run d (line ∷ lines) one end =
+    let known : settings_refusal d.reader.settings ≡ 0 = settings-known d.reader (omega arith) in
+    elim (outcome d line) [
+      | stays e to ↦ absurd (stuck (judged d line) lines (rw to e) end)
+      | refuses e k to ↦ absurd (stuck (judged d line) lines (rw to (refused-stops d line k)) end)
+      | opens e o to ↦ absurd (omega (arith, o.place))
+      | tells e t to ↦ rw to (next t (run (told d (frame_of line)) lines (stage-said (told d (frame_of line)).reader known (omega arith)) (rw to at end)))
+      | closes e c to ↦
+          let none = nothing-after (closed d) lines (stage-said (closed d).reader known (omega arith)) (rw to at end) in
+          rw (none, to) (last c)
+    ]
 
 -- ---- the whole file
 
 -- the end of the input is accepted
 pub complete-end : (r : Reader) (table rest : List ℕ) → end_refusal r table rest ≡ 0 → (stopped r ≡ false) × (stage_of r ≡ 2) × (length rest ≡ 0)
 unfolding end_reasons cut_short first
-complete-end r table rest e =
-    by-test (stopped r)
-    (λ (t : stopped r ≡ true). absurd (eqb-false r.refusal 0 (not-true (eqb r.refusal 0) t) (rw t at e)))
-    (λ (t : stopped r ≡ false).
-    by-test (eqb (stage_of r) 2)
-    (λ (a : eqb (stage_of r) 2 ≡ true).
-    by-test (eqb (length rest) 0)
-    (λ (b : eqb (length rest) 0 ≡ true). (t, eqb-true (stage_of r) 2 a, eqb-true (length rest) 0 b))
-    (λ (b : eqb (length rest) 0 ≡ false). absurd (omega (arith, rw (t, a, b) at e))))
-    (λ (a : eqb (stage_of r) 2 ≡ false). absurd (omega (arith, rw (t, a) at e))))
+complete-end r table rest e = (grind (arith, nat_tests), grind (arith, nat_tests), grind (arith, nat_tests))
 
 -- the lines of an accepted file: the first, and those after it one by one
 pub record Accepted (table marks : List ℕ) (lines : List (List ℕ)) : Type 0 where
@@ -102,19 +83,17 @@ pub record Accepted (table marks : List ℕ) (lines : List (List ℕ)) : Type 0 
 first-line : (table marks : List ℕ) (lines : List (List ℕ)) → Complete (judged_all (begun table marks) lines) → Accepted table marks lines
 unfolding fresh opened after
 first-line table marks [] end = absurd (omega (arith, end.stage, stage-first fresh refl))
-first-line table marks (line ∷ lines) end = by (outcome d line)
-  where
-    d : Desk
-    d = begun table marks
-
-    by : Outcome d line → Accepted table marks (line ∷ lines)
-    by (stays e to) = absurd (false≢true e)
-    by (refuses e k to) = absurd (stuck (judged d line) lines (rw to (refused-stops d line k)) end)
-    by (opens e o to) =
-        let one : stage_of (judged d line).reader ≡ 1 = rw to (stage-said (opened d (frame_of line)).reader o.settings (omega arith)) in
-        record { opening = line; later = lines; cut = refl; opens = o; runs = rw to (rw to at (run (judged d line) lines one end)) }
-    by (tells e t to) = absurd (omega (arith, stage-first fresh refl, t.place))
-    by (closes e c to) = absurd (omega (arith, stage-first fresh refl, c.place))
+first-line table marks (line ∷ lines) end =
+    let d = begun table marks in
+    elim (outcome d line) [
+      | stays e to ↦ absurd (false≢true e)
+      | refuses e k to ↦ absurd (stuck (judged d line) lines (rw to (refused-stops d line k)) end)
+      | opens e o to ↦
+          let one = stage-said (opened d (frame_of line)).reader o.settings (omega arith) in
+          record { opening = line; later = lines; cut = refl; opens = o; runs = rw to (run (opened d (frame_of line)) lines one (rw to at end)) }
+      | tells e t to ↦ absurd (omega (arith, stage-first fresh refl, t.place))
+      | closes e c to ↦ absurd (omega (arith, stage-first fresh refl, c.place))
+    ]
 
 -- an accepted file has such lines, and no unfinished one
 pub accepted-file : (table marks x : List ℕ)
@@ -124,8 +103,4 @@ unfolding file_judged
 accepted-file table marks x e =
     let d = judged_all (begun table marks) (lines_of x) in
     let end = complete-end d.reader d.table (rest_of x) e in
-    (first-line table marks (lines_of x) (record { going = end.0; stage = end.1 }), empty (rest_of x) end.2)
-  where
-    empty : (xs : List ℕ) → length xs ≡ 0 → xs ≡ []
-    empty [] h = refl
-    empty (x ∷ xs) h = absurd (omega arith)
+    (first-line table marks (lines_of x) (record { going = end.0; stage = end.1 }), nil_from_length (rest_of x) end.2)

@@ -4,18 +4,19 @@ use mathlib.Core.Path.{◌≡◌, refl, sym, ap, ap₂, ◌∙◌}
 use mathlib.Core.Logic.{◌≢◌}
 use mathlib.Core.Bool.{true, false}
 use mathlib.Core.List.{List, [], ◌∷◌, ◌++◌, map, append-nil, append_assoc}
-use Prim.Native.Nat.{ℕ, ◌+◌, ◌*◌, ◌/◌, ◌%◌, ◌≤◌, ◌<◌}
+use Prim.Native.Nat.{ℕ, ◌+◌, ◌/◌, ◌%◌, ◌<◌}
 use native.Mathlib.Omega.{arith}
 use lib.ListN.{length, get_or, length-append, length-map, get_or-append}
-use lib.Seq.{get_or_at, get_or-take, length-take-le}
-use lib.Dec.{eqb, ltb}
+use lib.Seq.{get_or_at}
+use lib.Dec.{eqb}
 use borrow.Author.Tests.{eqb-false, ne_eqb, not-true}
+use Rattle.std.proofs.lemmas.List.{get_or-map}
+use Rattle.std.proofs.lemmas.Bool.Decides.{nat_tests}
 use Rattle.rules.specs.Lists.{all, up_to}
-use Rattle.rules.specs.Cells.{cells}
 use Rattle.rules.specs.Exchange.{played}
 use Rattle.rules.specs.Refusals.{first}
 use Rattle.rules.specs.declared.Settings.{Settings}
-use Rattle.rules.proofs.Counting.{by-test, and_both, length-up_to, nth-up_to, nth-map}
+use Rattle.rules.proofs.Counting.{and_both, length-up_to, nth-up_to}
 use Rattle.scenario.specs.Hex.{digit_of, frame_of, digits_of}
 use Rattle.scenario.specs.Lines.{lines_of, rest_of}
 use Rattle.scenario.specs.Reasons.{stopped}
@@ -45,21 +46,12 @@ module _ (s : Settings) (table : List ℕ) where
   unfolding played_frames nodes
   played-node i h =
       get_or-append nodes (summary_frame (played s table) ∷ []) [] i (omega (arith, nodes-count))
-      ∙ nth-map (node_frame s table) (up_to s.n) i 0 [] (omega (arith, length-up_to s.n))
+      ∙ get_or-map (node_frame s table) (up_to s.n) i 0 [] (omega (arith, length-up_to s.n))
       ∙ ap (node_frame s table) (nth-up_to s.n i h)
 
   pub played-summary : get_or (played_frames s table) s.n [] ≡ summary_frame (played s table)
   unfolding played_frames nodes
   played-summary = get_or_at nodes (summary_frame (played s table)) [] [] s.n nodes-count
-
-  -- the exchange is handed the first 2M bytes of what was lent
-  pub given-length : 2 * cells s.n s.m ≤ length table → length (table_given s table) ≡ 2 * cells s.n s.m
-  unfolding table_given
-  given-length enough = length-take-le (2 * cells s.n s.m) table enough
-
-  pub given-byte : (i : ℕ) → i < 2 * cells s.n s.m → get_or (table_given s table) i 0 ≡ get_or table i 0
-  unfolding table_given
-  given-byte i h = get_or-take (2 * cells s.n s.m) table i 0 h
 
 -- ---- the frames of an answer
 
@@ -113,10 +105,7 @@ module _ (table marks x : List ℕ) where
 -- no digit is an LF
 digit-no-end : (v : ℕ) → not_end (digit_of v) ≡ true
 unfolding digit_of
-digit-no-end v =
-    by-test (ltb v 10)
-    (λ (e : ltb v 10 ≡ true). rw (e, ne_eqb (48 + v) 10 (λ p. omega (arith, p))))
-    (λ (e : ltb v 10 ≡ false). rw (e, ne_eqb (55 + v) 10 (λ p. omega (arith, p))))
+digit-no-end v = grind (arith, nat_tests)
 
 digits-no-end : (frame : List ℕ) → all not_end (digits_of frame) ≡ true
 unfolding digits_of all

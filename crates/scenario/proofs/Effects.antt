@@ -18,7 +18,7 @@ use Rattle.scenario.specs.Reasons.{Desk, cell_in, line_refusal}
 use Rattle.scenario.specs.Judging.{one_more, after, opened, told, closed, refused_with, accepted, settled, judged}
 use Rattle.scenario.specs.declared.Reader.{Reader}
 use Rattle.scenario.proofs.Marking.{mark-same, mark-other}
-use Rattle.scenario.proofs.Outcomes.{Tells, Outcome, stays, refuses, opens, tells, closes, outcome}
+use Rattle.scenario.proofs.Outcomes.{Tells, stays, refuses, opens, tells, closes, outcome}
 use Rattle.scenario.proofs.WordsGiven.{cell_below}
 
 -- ---- the reader
@@ -102,14 +102,13 @@ module _ (d : Desk) (line : List ℕ) (going : d.reader.refusal ≡ 0) where
       told_is = rw (eq-eqb d.reader.refusal 0 going, none, kind)
 
       facts : Tells d (frame_of line)
-      facts = by (outcome d line)
-        where
-          by : Outcome d line → Tells d (frame_of line)
-          by (stays e to) = absurd (true≢false (sym e ∙ rw going))
-          by (refuses e k to) = absurd (eqb-false (line_refusal d line) 0 k none)
-          by (opens e o to) = absurd (omega (arith, o.kind))
-          by (tells e t to) = t
-          by (closes e c to) = absurd (omega (arith, c.kind))
+      facts = elim (outcome d line) [
+        | stays e to ↦ absurd (true≢false (sym e ∙ rw going))
+        | refuses e k to ↦ absurd (eqb-false (line_refusal d line) 0 k none)
+        | opens e o to ↦ absurd (omega (arith, o.kind))
+        | tells e t to ↦ t
+        | closes e c to ↦ absurd (omega (arith, c.kind))
+      ]
 
       -- an accepted `02` line writes its word as given into its cell, and no other byte
       pub told-word : word_at (judged d line).table (cell_in d.reader.settings (frame_of line)) ≡ word_told (frame_of line)

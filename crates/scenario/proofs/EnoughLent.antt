@@ -2,13 +2,14 @@
 -- 10 are never given.
 use mathlib.Core.Path.{◌≡◌, refl}
 use mathlib.Core.Logic.{◌≢◌}
-use mathlib.Core.Bool.{Bool, true, false, true≢false}
+use mathlib.Core.Bool.{Bool, true, false}
 use mathlib.Core.List.{List, [], ◌∷◌}
 use Prim.Native.Nat.{ℕ, ◌*◌, ◌≤◌}
 use native.Mathlib.Omega.{arith}
 use lib.ListN.{length, replicate, length-replicate}
 use lib.Dec.{eqb}
 use borrow.Author.Tests.{eqb-true, eqb-false, le-ltb, not-false}
+use Rattle.std.proofs.lemmas.Bool.Decides.{nat_tests}
 use Rattle.rules.specs.Cells.{cells}
 use Rattle.rules.specs.Refusals.{Reason, because, first, settings_reasons, settings_refusal}
 use Rattle.rules.proofs.WordRows.{put-length}
@@ -24,7 +25,7 @@ use Rattle.scenario.specs.Judging.{after, opened, told, closed, refused_with, ju
 use Rattle.scenario.specs.Lines.{lines_of, rest_of}
 use Rattle.scenario.specs.File.{fresh, begun, file_judged, cut_short, end_reasons, end_refusal, file_refusal}
 use Rattle.scenario.specs.declared.Reader.{Reader}
-use Rattle.scenario.proofs.Outcomes.{Outcome, stays, refuses, opens, tells, closes, outcome, Placed, opening, telling, closing, placed}
+use Rattle.scenario.proofs.Outcomes.{stays, refuses, opens, tells, closes, outcome, Placed, opening, telling, closing, placed}
 use Rattle.scenario.proofs.FromStart.{settings-known}
 use Rattle.scenario.proofs.Marking.{marks-length}
 
@@ -104,14 +105,13 @@ module _ (d : Desk) (a : Ample d) where
 -- a line changes no length
 lengths-kept : (d : Desk) (line : List ℕ) → (length (judged d line).table ≡ length d.table) × (length (judged d line).marks ≡ length d.marks)
 unfolding opened told closed refused_with
-lengths-kept d line = by (outcome d line)
-  where
-    by : Outcome d line → (length (judged d line).table ≡ length d.table) × (length (judged d line).marks ≡ length d.marks)
-    by (stays e to) = rw to (refl, refl)
-    by (refuses e k to) = rw to (refl, refl)
-    by (opens e o to) = rw to (length-replicate (length d.table) _, length-replicate (length d.marks) _)
-    by (tells e t to) = rw to (put-length d.table _ (word_told (frame_of line)), marks-length d.marks (cell_in d.reader.settings (frame_of line)))
-    by (closes e c to) = rw to (refl, refl)
+lengths-kept d line = elim (outcome d line) [
+  | stays e to ↦ rw to (refl, refl)
+  | refuses e k to ↦ rw to (refl, refl)
+  | opens e o to ↦ rw to (length-replicate (length d.table) _, length-replicate (length d.marks) _)
+  | tells e t to ↦ rw to (put-length d.table _ (word_told (frame_of line)), marks-length d.marks (cell_in d.reader.settings (frame_of line)))
+  | closes e c to ↦ rw to (refl, refl)
+]
 
 -- a desk with enough, whose reader was not stopped for want of it
 record Fair (d : Desk) : Type 0 where
@@ -125,14 +125,16 @@ ample-kept d line a =
 
 fair-step : (d : Desk) (line : List ℕ) → Fair d → Fair (judged d line)
 unfolding opened told closed refused_with after
-fair-step d line f = record { ample = ample-kept d line f.ample; own = by (outcome d line) }
-  where
-    by : Outcome d line → Own (judged d line).reader.refusal
-    by (stays e to) = rw to f.own
-    by (refuses e k to) = rw to (never-for-lent d f.ample line)
-    by (opens e o to) = rw to (below-eight 0 (omega arith))
-    by (tells e t to) = rw to (below-eight 0 (omega arith))
-    by (closes e c to) = rw to (below-eight 0 (omega arith))
+fair-step d line f = record {
+  ample = ample-kept d line f.ample;
+  own = elim (outcome d line) [
+    | stays e to ↦ rw to f.own
+    | refuses e k to ↦ rw to (never-for-lent d f.ample line)
+    | opens e o to ↦ rw to (below-eight 0 (omega arith))
+    | tells e t to ↦ rw to (below-eight 0 (omega arith))
+    | closes e c to ↦ rw to (below-eight 0 (omega arith))
+  ];
+}
 
 fair-steps : (d : Desk) (lines : List (List ℕ)) → Fair d → Fair (judged_all d lines)
 fair-steps d [] f = f
@@ -149,11 +151,9 @@ fair-end d rest f =
     last : (r : Reader) → cut_short r rest ≡ false → Own (first (because 8 (short_table r.settings (length d.table)) ∷ []))
     last r c =
         let s = r.settings in
-        by-test (eqb (stage_of r) 2)
-        (λ (t : eqb (stage_of r) 2 ≡ true).
-        let few = cells-few s (settings-known r (omega (arith, eqb-true (stage_of r) 2 t))) in
-        rw (le-ltb (length d.table) (2 * cells s.n s.m) (omega (arith, f.ample.table))) (below-eight 0 (omega arith)))
-        (λ (t : eqb (stage_of r) 2 ≡ false). absurd (true≢false (rw t at c)))
+        let ended : stage_of r ≡ 2 = grind (arith, nat_tests) in
+        let few = cells-few s (settings-known r (omega arith)) in
+        rw (le-ltb (length d.table) (2 * cells s.n s.m) (omega (arith, f.ample.table))) (below-eight 0 (omega arith))
 
 -- no file is refused for what the program lends
 pub program-lends-enough : (x : List ℕ) → Own (file_refusal (replicate 52808 0) (replicate 3301 0) x)

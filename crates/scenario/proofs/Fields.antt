@@ -15,8 +15,9 @@ use Rattle.rules.specs.Exchange.{slot}
 use Rattle.rules.specs.declared.Settings.{Settings}
 use Rattle.rules.specs.declared.Summary.{Summary}
 use Rattle.rules.proofs.Rows.{written_back}
-use Rattle.scenario.specs.Frames.{byte_in, kind_of, settings_in, route_in, word_told, count_in}
+use Rattle.scenario.specs.Frames.{byte_in, kind_of, settings_in, route_in, word_told, count_in, line_in}
 use Rattle.scenario.specs.Answer.{role_of, node_frame, summary_frame, refusal_frame}
+use Rattle.scenario.specs.declared.Line.TheVariants.{Opening, Telling, Closing}
 
 -- ---- what is read
 
@@ -70,6 +71,22 @@ telling-word row rest high low =
 pub closing-count : (high low : ℕ) → count_in (3 ∷ high ∷ low ∷ []) ≡ high * 256 + low
 unfolding count_in
 closing-count high low = refl
+
+-- each kind of frame says one kind of line: `01` gives settings
+module _ (frame : List ℕ) where
+  pub line-opening : kind_of frame ≡ 1 → line_in frame ≡ Opening (settings_in frame)
+  unfolding line_in
+  line-opening e = rw e
+
+  -- `02` tells a word for a route
+  pub line-telling : kind_of frame ≡ 2 → line_in frame ≡ Telling (route_in frame) (word_told frame)
+  unfolding line_in
+  line-telling e = rw e
+
+  -- and `03` gives a count
+  pub line-closing : kind_of frame ≡ 3 → line_in frame ≡ Closing (count_in frame)
+  unfolding line_in
+  line-closing e = rw e
 
 -- ---- what is written
 

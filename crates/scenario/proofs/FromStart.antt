@@ -2,20 +2,21 @@
 -- accepted than there are cells; with the `01` line, the `03` line and one that is refused, at most 26,407 lines are ever judged. So
 -- both numbers are exact, and neither comes near the bound of a word.
 use mathlib.Core.Path.{◌≡◌, refl, sym, ap, subst, ◌∙◌}
-use mathlib.Core.Bool.{true, false, not, ◌&&◌, true≢false}
+use mathlib.Core.Bool.{true, false, not, true≢false}
 use mathlib.Core.List.{List, [], ◌∷◌}
 use Prim.Native.Nat.{ℕ, ◌+◌, ◌≤◌, ◌<◌}
 use native.Mathlib.Nat.{add-zero}
 use native.Mathlib.Omega.{arith}
 use lib.ListN.{length, replicate, length-replicate}
-use lib.Dec.{eqb, ltb}
-use borrow.Author.Tests.{eqb-true, lt-ltb, eqb-false}
+use lib.Dec.{eqb}
+use borrow.Author.Tests.{lt-ltb, eqb-false}
+use Rattle.std.proofs.lemmas.Bool.Decides.{nat_tests}
 use Rattle.rules.specs.Lists.{count, up_to}
 use Rattle.rules.specs.Cells.{cells}
 use Rattle.rules.specs.Routes.{held}
 use Rattle.rules.specs.Refusals.{settings_refusal}
 use Rattle.rules.specs.declared.Settings.{Settings}
-use Rattle.rules.proofs.Counting.{by-test, one_fewer, count_most, length-keep, keep-none}
+use Rattle.rules.proofs.Counting.{one_fewer, count_most, length-keep, keep-none}
 use Rattle.rules.proofs.WordRows.{put-length}
 use Rattle.rules.proofs.Numbering.{cell-lt}
 use Rattle.rules.proofs.Accepted.{settings-accepted}
@@ -28,8 +29,9 @@ use Rattle.scenario.specs.Judging.{one_more, after, opened, told, closed, refuse
 use Rattle.scenario.specs.File.{fresh, begun}
 use Rattle.scenario.specs.declared.Reader.{Reader}
 use Rattle.scenario.proofs.LineTable.{stage-said}
+use Rattle.scenario.proofs.Pieces.{all-stopped}
 use Rattle.scenario.proofs.Marking.{mark-same, mark-other, marks-length, unmarked}
-use Rattle.scenario.proofs.Outcomes.{Enough, Opens, Tells, Outcome, stays, refuses, opens, tells, closes, outcome}
+use Rattle.scenario.proofs.Outcomes.{Enough, Opens, Tells, stays, refuses, opens, tells, closes, outcome}
 
 -- M, for a desk's settings
 abbrev pub cell_count : Settings → ℕ
@@ -61,18 +63,12 @@ one-marked s marks c below room new =
 
 pub stage-first : (r : Reader) → r.stage ≡ 0 → stage_of r ≡ 0
 unfolding stage_of
-stage-first r e =
-    by-test (eqb (settings_refusal r.settings) 0 && ltb r.stage 3)
-    (λ (t : (eqb (settings_refusal r.settings) 0 && ltb r.stage 3) ≡ true). rw t e)
-    (λ (t : (eqb (settings_refusal r.settings) 0 && ltb r.stage 3) ≡ false). rw t)
+stage-first r e = grind arith
 
 -- a reader past its `01` line has settings that are accepted
 pub settings-known : (r : Reader) → 1 ≤ stage_of r → settings_refusal r.settings ≡ 0
 unfolding stage_of
-settings-known r h =
-    by-test (eqb (settings_refusal r.settings) 0)
-    (λ (t : eqb (settings_refusal r.settings) 0 ≡ true). eqb-true (settings_refusal r.settings) 0 t)
-    (λ (t : eqb (settings_refusal r.settings) 0 ≡ false). absurd (omega (arith, rw t at h)))
+settings-known r h = grind (arith, nat_tests)
 
 -- ---- the reader, after so many lines
 
@@ -162,39 +158,27 @@ module _ (k : ℕ) (d : Desk) (line : List ℕ) where
 
   -- any line
   opened-step : Opened k d → Sound (k + 1) (judged d line)
-  opened-step o = by (outcome d line)
-    where
-      stage : stage_of d.reader ≡ d.reader.stage
-      stage = stage-said d.reader o.settings (omega (arith, o.most))
-
-      few : d.reader.given ≤ 26404
-      few = given-most k d o
-
-      by : Outcome d line → Sound (k + 1) (judged d line)
-      by (stays e to) = absurd (true≢false (sym e ∙ o.going))
-      by (refuses e r to) = halting (omega (arith, few, o.lines, o.most)) few r to
-      by (opens e p to) = absurd (omega (arith, o.least, stage, p.place))
-      by (tells e t to) = telling o (sym stage ∙ t.place) t to
-      by (closes e c to) = closing o (sym stage ∙ c.place) to
+  opened-step o =
+      let stage : stage_of d.reader ≡ d.reader.stage = stage-said d.reader o.settings (omega (arith, o.most)) in
+      let few = given-most k d o in
+      elim (outcome d line) [
+        | stays e to ↦ absurd (true≢false (sym e ∙ o.going))
+        | refuses e r to ↦ halting (omega (arith, few, o.lines, o.most)) few r to
+        | opens e p to ↦ absurd (omega (arith, o.least, stage, p.place))
+        | tells e t to ↦ telling o (sym stage ∙ t.place) t to
+        | closes e c to ↦ closing o (sym stage ∙ c.place) to
+      ]
 
   step : Sound k d → Sound (k + 1) (judged d line)
-  step (unopened going stage given lines none) = by (outcome d line)
-    where
-      by : Outcome d line → Sound (k + 1) (judged d line)
-      by (stays e to) = absurd (true≢false (sym e ∙ going))
-      by (refuses e r to) = halting (omega arith) (omega arith) r to
-      by (opens e p to) = opening lines none p to
-      by (tells e t to) = absurd (omega (arith, stage-first d.reader stage, t.place))
-      by (closes e c to) = absurd (omega (arith, stage-first d.reader stage, c.place))
+  step (unopened going stage given lines none) = elim (outcome d line) [
+    | stays e to ↦ absurd (true≢false (sym e ∙ going))
+    | refuses e r to ↦ halting (omega arith) (omega arith) r to
+    | opens e p to ↦ opening lines none p to
+    | tells e t to ↦ absurd (omega (arith, stage-first d.reader stage, t.place))
+    | closes e c to ↦ absurd (omega (arith, stage-first d.reader stage, c.place))
+  ]
   step (reading o) = opened-step o
-  step (halted stop lines given) = by (outcome d line)
-    where
-      by : Outcome d line → Sound (k + 1) (judged d line)
-      by (stays e to) = rw to (halted stop lines given)
-      by (refuses e r to) = absurd (true≢false (sym stop ∙ e))
-      by (opens e p to) = absurd (true≢false (sym stop ∙ e))
-      by (tells e t to) = absurd (true≢false (sym stop ∙ e))
-      by (closes e c to) = absurd (true≢false (sym stop ∙ e))
+  step (halted stop lines given) = rw (all-stopped d (line ∷ []) stop) (halted stop lines given)
 
 -- line after line
 steps : (k : ℕ) (d : Desk) (lines : List (List ℕ)) → Sound k d → Sound (k + length lines) (judged_all d lines)

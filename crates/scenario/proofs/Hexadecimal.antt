@@ -1,15 +1,14 @@
 -- Hexadecimal goes both ways: what is written is read back, and what is read could only be written so.
 use mathlib.Core.Path.{◌≡◌, refl, ap₂}
-use mathlib.Core.Bool.{Bool, true, false, ◌&&◌, ◌||◌}
+use mathlib.Core.Bool.{true, ◌&&◌}
 use mathlib.Core.List.{List, [], ◌∷◌}
-use Prim.Native.Nat.{ℕ, ◌+◌, ◌-◌, ◌*◌, ◌/◌, ◌%◌, ◌<◌}
+use Prim.Native.Nat.{ℕ, ◌*◌, ◌/◌, ◌%◌, ◌<◌}
 use native.Mathlib.Omega.{arith}
 use lib.ListN.{length}
-use lib.Dec.{ltb, leb}
 use lib.Arith.{digits_div, digits_mod}
-use borrow.Author.Tests.{ltb-true, ltb-false, lt-ltb, le-ltb, leb-true}
+use Rattle.std.proofs.lemmas.Bool.Decides.{nat_tests}
 use Rattle.rules.specs.Lists.{all}
-use Rattle.rules.proofs.Counting.{by-test, and_left, and_right}
+use Rattle.rules.proofs.Counting.{and_left, and_right}
 use Rattle.scenario.specs.Hex.{is_digit, digit_value, digit_of, frame_of, digits_of}
 
 -- ---- one digit
@@ -17,14 +16,7 @@ use Rattle.scenario.specs.Hex.{is_digit, digit_value, digit_of, frame_of, digits
 -- what a digit that was written stands for
 value-of-digit : (v : ℕ) → digit_value (digit_of v) ≡ v
 unfolding digit_value digit_of
-value-of-digit v =
-    by-test (ltb v 10)
-    (λ (e : ltb v 10 ≡ true). rw (e, lt-ltb (48 + v) 65 (omega (arith, ltb-true v 10 e))) (omega arith))
-    (λ (e : ltb v 10 ≡ false). rw (e, le-ltb (55 + v) 65 (omega (arith, ltb-false v 10 e))) (omega arith))
-
-or_cases : {C : Type 0} (a b : Bool) → (a || b) ≡ true → (a ≡ true → C) → (b ≡ true → C) → C
-or_cases true b e f g = f refl
-or_cases false b e f g = g e
+value-of-digit v = grind (arith, nat_tests)
 
 -- 0-9 stand for less than 10, A-F for 10 to 15
 pub record Digit (b v : ℕ) : Type 0 where
@@ -33,16 +25,7 @@ pub record Digit (b v : ℕ) : Type 0 where
 
 pub digit-of : (b : ℕ) → is_digit b ≡ true → Digit b (digit_value b)
 unfolding is_digit digit_value digit_of
-digit-of b h =
-    or_cases (leb 48 b && leb b 57) (leb 65 b && leb b 70) h
-    (λ (e : (leb 48 b && leb b 57) ≡ true).
-    let from = leb-true 48 b (and_left (leb 48 b) (leb b 57) e) in
-    let to = leb-true b 57 (and_right (leb 48 b) (leb b 57) e) in
-    rw (lt-ltb b 65 (omega arith)) (record { low = omega arith; written = rw (lt-ltb (b - 48) 10 (omega arith)) (omega arith) }))
-    (λ (e : (leb 65 b && leb b 70) ≡ true).
-    let from = leb-true 65 b (and_left (leb 65 b) (leb b 70) e) in
-    let to = leb-true b 70 (and_right (leb 65 b) (leb b 70) e) in
-    rw (le-ltb b 65 (omega arith)) (record { low = omega arith; written = rw (le-ltb (b - 55) 10 (omega arith)) (omega arith) }))
+digit-of b h = record { low = grind (arith, nat_tests); written = grind (arith, nat_tests) }
 
 -- ---- rows of bytes and lines of digits
 

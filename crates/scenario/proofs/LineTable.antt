@@ -1,23 +1,25 @@
 -- The table of what is turned away in files, in plain words: for a line and for the end of the input the numbers in their order, and
 -- when each is given.
-use mathlib.Core.Path.{◌≡◌, refl, sym, ◌∙◌}
+use mathlib.Core.Path.{◌≡◌, sym}
 use mathlib.Core.Logic.Iff
 use mathlib.Core.Logic.{◌⊎◌, inl, inr, ⊎_elim, ◌≢◌, ◌↔◌}
-use mathlib.Core.Bool.{Bool, true, false, not, ◌&&◌, ◌||◌, cond, and-false, true≢false, false≢true}
+use mathlib.Core.Bool.{Bool, true, false, not, ◌&&◌, ◌||◌, cond, and-false, true≢false}
 use mathlib.Core.List.{List, [], ◌∷◌, ◌++◌, map}
 use Prim.Native.Nat.{ℕ, suc, ◌+◌, ◌*◌, ◌%◌, ◌≤◌, ◌<◌}
 use native.Mathlib.Omega.{arith}
 use lib.ListN.{length, get_or}
 use lib.Dec.{eqb, ltb, leb}
 use borrow.Author.Tests.{ne_eqb, lt-ltb, le-ltb}
+use Rattle.std.proofs.lemmas.Bool.{iff_false, false_from_ne_true, true_from_ne_false}
+use Rattle.std.proofs.lemmas.Bool.Decides.{Decides-or as either, Decides-ltb as below, Decides-eqb as equal, Decides-and, Decides-not}
 use Rattle.rules.specs.Lists.{all}
 use Rattle.rules.specs.Routes.{is_route, held}
 use Rattle.rules.specs.Cells.{cells}
 use Rattle.rules.specs.Refusals.{Reason, because, first, no_route, settings_refusal}
 use Rattle.rules.specs.declared.Settings.{Settings}
-use Rattle.rules.proofs.Counting.{by-test, and_left, and_right, and_both, all-at}
+use Rattle.rules.proofs.Counting.{by-test, all-at}
 use Rattle.rules.proofs.Refused.{NoneApplies, end as none_left, ◌⨾◌ as ◌not-this◌}
-use Rattle.rules.proofs.RefusalTable.{Line, given, Says, end, ◌⨾◌, settings_lines, settings-say, either, below, up-to, equal, differs, fails}
+use Rattle.rules.proofs.RefusalTable.{Line, given, Says, end, ◌⨾◌, settings_lines, settings-say, up-to, differs, fails}
 use Rattle.scenario.specs.Hex.{is_digit, frame_of}
 use Rattle.scenario.specs.Frames.{byte_in, kind_of, settings_in, route_in, count_in}
 use Rattle.scenario.specs.Marks.{marked, bits_of}
@@ -47,10 +49,6 @@ data Tabled : List Reason → List Line → Type 1 where
   ◌then◌ : {k : ℕ} {b : Bool} {C : Type 0} {rs : List Reason} {ls : List Line} → (b ≡ true) ↔ C → (¬ C → Tabled rs ls) → Tabled (because k b ∷ rs) (given k C ∷ ls)
   never : {k : ℕ} {C : Type 0} {rs : List Reason} {ls : List Line} → ¬ C → Tabled rs ls → Tabled rs (given k C ∷ ls)
 
--- a condition does not hold where its test fails
-refuted : {b : Bool} {C : Type 0} → (b ≡ true) ↔ C → b ≡ false → ¬ C
-refuted e y c = true≢false (sym (e.1 c) ∙ y)
-
 -- the number given is that of the first line that is so
 tabled-first : (k : ℕ) {rs : List Reason} {ls : List Line} → k ≢ 0 → Tabled rs ls → (first rs ≡ k) ↔ FirstSaid k ls
 unfolding first FirstSaid
@@ -61,7 +59,7 @@ tabled-first k ne t = (to t, from t)
     to (◌then◌ {b = b} e rest) h =
         by-test b
         (λ (y : b ≡ true). inl (rw y at h, e.0 y))
-        (λ (y : b ≡ false). inr (refuted e y, to (rest (refuted e y)) (rw y at h)))
+        (λ (y : b ≡ false). inr (iff_false e y, to (rest (iff_false e y)) (rw y at h)))
     to (never out s) h = inr (out, to s h)
 
     from : {rs : List Reason} {ls : List Line} → Tabled rs ls → FirstSaid k ls → first rs ≡ k
@@ -81,7 +79,7 @@ tabled-none t = (to t, from t)
   where
     to : {rs : List Reason} {ls : List Line} → Tabled rs ls → NoneApplies rs → NoneSaid ls
     to done h = tt
-    to (e then rest) (y not-this h) = (refuted e y, to (rest (refuted e y)) h)
+    to (e then rest) (y not-this h) = (iff_false e y, to (rest (iff_false e y)) h)
     to (never out s) h = (out, to s h)
 
     from : {rs : List Reason} {ls : List Line} → Tabled rs ls → NoneSaid ls → NoneApplies rs
@@ -126,14 +124,10 @@ pub data NoFrame (line : List ℕ) : Type 0 where
   long : 18 < length line → NoFrame line
   mixed : OtherByte line → NoFrame line
 
--- two tests at once
-both : (a b : Bool) {A B : Type 0} → (a ≡ true) ↔ A → (b ≡ true) ↔ B → ((a && b) ≡ true) ↔ (A × B)
-both a b p q = (λ e. (p.0 (and_left a b e), q.0 (and_right a b e)), λ h. and_both (p.1 h.0) (q.1 h.1))
-
 -- the test of a digit is the test of those bytes
 digit : (b : ℕ) → (is_digit b ≡ true) ↔ DigitByte b
 unfolding is_digit
-digit b = either (leb 48 b && leb b 57) (leb 65 b && leb b 70) (both (leb 48 b) (leb b 57) (up-to 48 b) (up-to b 57)) (both (leb 65 b) (leb b 70) (up-to 65 b) (up-to b 70))
+digit b = either (leb 48 b && leb b 57) (leb 65 b && leb b 70) (Decides-and (leb 48 b) (leb b 57) (up-to 48 b) (up-to b 57)) (Decides-and (leb 65 b) (leb b 70) (up-to 65 b) (up-to b 70))
 
 -- not all bytes are digits exactly where some byte is another
 other_byte : (line : List ℕ) → all is_digit line ≡ false → OtherByte line
@@ -144,13 +138,10 @@ other_byte (x ∷ line) e =
     (λ (y : is_digit x ≡ true).
     let rest = other_byte line (rw y at e) in
     record { at = suc rest.at; within = omega (arith, rest.within); other = rest.other })
-    (λ (y : is_digit x ≡ false). record { at = 0; within = omega arith; other = refuted (digit x) y })
+    (λ (y : is_digit x ≡ false). record { at = 0; within = omega arith; other = iff_false (digit x) y })
 
 not-all : (line : List ℕ) (i : ℕ) → i < length line → ¬ DigitByte (get_or line i 0) → all is_digit line ≡ false
-not-all line i h out =
-    by-test (all is_digit line)
-    (λ (y : all is_digit line ≡ true). absurd (out ((digit (get_or line i 0)).0 (all-at is_digit line i h y))))
-    (λ (y : all is_digit line ≡ false). y)
+not-all line i h out = false_from_ne_true (all is_digit line) (λ y. out ((digit (get_or line i 0)).0 (all-at is_digit line i h y)))
 
 no-frame : (line : List ℕ) → (no_frame line ≡ true) ↔ NoFrame line
 unfolding no_frame
@@ -188,14 +179,6 @@ pub stage-forged : (r : Reader) → (settings_refusal r.settings ≢ 0) ⊎ (3 �
 unfolding stage_of
 stage-forged r (inl no-settings) = rw (ne_eqb (settings_refusal r.settings) 0 no-settings)
 stage-forged r (inr no-stage) = rw (le-ltb r.stage 3 no-stage, and-false)
-
--- a test turned round, and a condition that cannot fail
-unless : (b : Bool) {C : Type 0} → (b ≡ true) ↔ C → (not b ≡ true) ↔ (¬ C)
-unless true e = (λ h. absurd (false≢true h), λ out. absurd (out (e.0 refl)))
-unless false e = (λ h. refuted e refl, λ out. refl)
-
-not-not : (b : Bool) {C : Type 0} → (b ≡ true) ↔ C → ¬ (¬ C) → C
-not-not b e h = by-test b e.0 (λ (y : b ≡ false). absurd (h (refuted e y)))
 
 in-place : (stage kind : ℕ) → (in_place stage kind ≡ true) ↔ Placed stage kind
 unfolding in_place
@@ -316,10 +299,10 @@ line-tabled d line =
     let stage = stage_of d.reader in
     let place = in-place stage (kind_of frame) in
     no-frame line
-    then (λ some. unless (in_place stage (kind_of frame)) place
+    then (λ some. Decides-not (in_place stage (kind_of frame)) place
     then (λ inside.
-    let p = not-not (in_place stage (kind_of frame)) place inside in
-    unless (eqb (length frame) (size_of frame)) (Iff.trans (equal (length frame) (size_of frame)) (sized frame p))
+    let p = place.0 (true_from_ne_false (in_place stage (kind_of frame)) (λ y. inside (iff_false place y))) in
+    Decides-not (eqb (length frame) (size_of frame)) (Iff.trans (equal (length frame) (size_of frame)) (sized frame p))
     then (λ size. own d frame p)))
 
 -- A line is refused with k exactly when what the table says of k is so and nothing that it says above, and accepted exactly when

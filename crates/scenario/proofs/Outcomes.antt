@@ -1,19 +1,22 @@
 -- What can become of a line: the reader was stopped before, or the line is refused, or it is accepted as the line of its kind, and
 -- then what its refusals ask holds.
 use mathlib.Core.Path.{◌≡◌, refl}
-use mathlib.Core.Bool.{Bool, true, false, ◌&&◌, ◌||◌}
-use mathlib.Core.List.{List, [], ◌∷◌}
+use mathlib.Core.Logic.{⊎_elim}
+use mathlib.Core.Bool.{Bool, true, false}
+use mathlib.Core.List.{List, ◌∷◌}
 use Prim.Native.Nat.{ℕ, suc, ◌+◌, ◌*◌, ◌≤◌}
 use native.Mathlib.Omega.{arith}
 use lib.ListN.{length}
 use lib.Dec.{eqb}
-use borrow.Author.Tests.{eqb-true, ltb-false, not-false}
+use borrow.Author.Tests.{eqb-true, not-false}
+use Rattle.std.proofs.lemmas.Bool.{cases_eq}
+use Rattle.std.proofs.lemmas.Bool.Decides.{nat_tests}
 use Rattle.rules.specs.Routes.{is_route, held}
 use Rattle.rules.specs.Cells.{cells}
 use Rattle.rules.specs.Refusals.{Reason, because, first, no_route, settings_reasons, settings_refusal}
 use Rattle.rules.specs.declared.Settings.{Settings}
-use Rattle.rules.proofs.Counting.{by-test, and_left, and_right}
-use Rattle.rules.proofs.Refused.{NoneApplies, end, ◌⨾◌, none-split, ascending, first-zero, settings-ascend}
+use Rattle.rules.proofs.Counting.{by-test}
+use Rattle.rules.proofs.Refused.{none-split, ascending, first-zero, settings-ascend}
 use Rattle.scenario.specs.Hex.{frame_of}
 use Rattle.scenario.specs.Frames.{byte_in, kind_of, settings_in, route_in, count_in}
 use Rattle.scenario.specs.Marks.{marked, bits_of}
@@ -64,32 +67,25 @@ unfolding first
 passed k true rs e = absurd (omega arith)
 passed k false rs e = (refl, e)
 
-enough : (s : Settings) (d : Desk) → short_table s (length d.table) ≡ false → short_marks s (length d.marks) ≡ false → Enough s d
-unfolding short_table short_marks
-enough s d t m = record {
-  table = ltb-false (length d.table) (2 * cells s.n s.m) t;
-  marks = ltb-false (bits_of d.marks) (cells s.n s.m) m;
-}
-
 lent-enough : (s : Settings) (d : Desk) → first (lent_for s d) ≡ 0 → Enough s d
-unfolding lent_reasons
-lent-enough s d e =
-    let table = passed 7 (short_table s (length d.table)) (because 10 (short_marks s (length d.marks)) ∷ []) e in
-    enough s d table.0 (passed 9 (short_marks s (length d.marks)) [] table.1).0
+unfolding lent_reasons first short_table short_marks
+lent-enough s d e = record { table = grind (arith, nat_tests); marks = grind (arith, nat_tests) }
 
 -- ---- the kinds, each with its own reasons
 
 module _ (d : Desk) (frame : List ℕ) where
   open-facts : kind_of frame ≡ 1 → stage_of d.reader ≡ 0 → length frame ≡ 9 → first (open_reasons d frame) ≡ 0 → Opens d frame
   unfolding open_reasons settings_reasons lent_reasons ascending
-  open-facts kind place size e = parts (none-split (settings_reasons s) (lent_for s d) ((first-zero 0 (open_reasons d frame) refl).0 e))
-    where
-      s : Settings
-      s = settings_in frame
-
-      parts : NoneApplies (settings_reasons s) × NoneApplies (lent_for s d) → Opens d frame
-      parts (own, t ⨾ m ⨾ end) =
-          record { kind = kind; place = place; size = size; settings = (first-zero 0 (settings_reasons s) (settings-ascend s)).1 own; lent = enough s d t m }
+  open-facts kind place size e =
+      let s = settings_in frame in
+      let none = none-split (settings_reasons s) (lent_for s d) ((first-zero 0 (open_reasons d frame) refl).0 e) in
+      record {
+        kind = kind;
+        place = place;
+        size = size;
+        settings = (first-zero 0 (settings_reasons s) (settings-ascend s)).1 none.0;
+        lent = lent-enough s d ((first-zero 0 (lent_for s d) refl).1 none.1);
+      }
 
   tell-facts : kind_of frame ≡ 2 → stage_of d.reader ≡ 1 → length frame ≡ 4 + byte_in frame 1 → first (tell_reasons d frame) ≡ 0 → Tells d frame
   unfolding tell_reasons routeless no_route given_before
@@ -128,16 +124,9 @@ pub data Placed (stage kind : ℕ) : Type 0 where
 pub placed : (stage kind : ℕ) → in_place stage kind ≡ true → Placed stage kind
 unfolding in_place
 placed stage kind e =
-    by-test (eqb stage 0 && eqb kind 1)
-    (λ (a : (eqb stage 0 && eqb kind 1) ≡ true).
-    opening (eqb-true stage 0 (and_left (eqb stage 0) (eqb kind 1) a)) (eqb-true kind 1 (and_right (eqb stage 0) (eqb kind 1) a)))
-    (λ (a : (eqb stage 0 && eqb kind 1) ≡ false).
-    let later : (eqb stage 1 && (eqb kind 2 || eqb kind 3)) ≡ true = rw a at e in
-    let one = eqb-true stage 1 (and_left (eqb stage 1) (eqb kind 2 || eqb kind 3) later) in
-    let either = and_right (eqb stage 1) (eqb kind 2 || eqb kind 3) later in
-    by-test (eqb kind 2)
-    (λ (t : eqb kind 2 ≡ true). telling one (eqb-true kind 2 t))
-    (λ (t : eqb kind 2 ≡ false). closing one (eqb-true kind 3 (rw t at either))))
+    ⊎_elim (λ s. opening s (grind (arith, nat_tests)))
+    (λ s. ⊎_elim (telling (grind (arith, nat_tests))) (λ k. closing (grind (arith, nat_tests)) (grind (arith, nat_tests))) (cases_eq kind 2))
+    (cases_eq stage 0)
 
 -- ---- any line
 

@@ -2,6 +2,7 @@
 -- Between its lines the reader holds nothing; while a line is begun it holds the line's first bytes, and that is all that ever
 -- counts, since a line longer than what is held is refused for its length.
 use mathlib.Core.Path.{◌≡◌, refl, sym, ap, ◌∙◌}
+use mathlib.Core.Logic.{⊎_elim}
 use mathlib.Core.Bool.{true, false, cond, or-true}
 use mathlib.Core.List.{List, [], ◌∷◌, ◌++◌, append-nil, foldl, foldl-append, flatten}
 use Prim.Native.Nat.{ℕ, ◌≤◌, ◌<◌}
@@ -11,6 +12,8 @@ use lib.ListN.{length, take, replicate, length-take, length-set}
 use lib.Seq.{take_all, take-suc-set, take-append-le, append_snoc}
 use lib.Dec.{eqb, ltb}
 use borrow.Author.Tests.{lt-ltb, ltb-true, ltb-false, ne_eqb}
+use Rattle.std.proofs.lemmas.Bool.{cases_lt}
+use Rattle.std.proofs.lemmas.Bool.Decides.{nat_tests}
 use Rattle.rules.specs.Refusals.{first}
 use Rattle.rules.proofs.Counting.{by-test}
 use Rattle.scenario.specs.Lines.{line_end, lines_from, rest_from}
@@ -20,7 +23,7 @@ use Rattle.scenario.specs.File.{fresh, begun, file_judged, cut_short, end_reason
 use Rattle.scenario.specs.Answer.{answer_frames, answer_of, answer_to}
 use Rattle.scenario.specs.Feeding.{line_held, keeping, with_reader, taken, fed, fed_all, finished}
 use Rattle.scenario.specs.declared.Reader.{Reader}
-use Rattle.scenario.proofs.Outcomes.{Outcome, stays, refuses, opens, tells, closes, outcome}
+use Rattle.scenario.proofs.Outcomes.{stays, refuses, opens, tells, closes, outcome}
 
 -- ---- a line is judged by its first 19 bytes
 
@@ -32,11 +35,10 @@ overlong d line h = rw (lt-ltb 18 (length line) h, or-true)
 pub by-first-bytes : (d : Desk) (line : List ℕ) → judged d (take 19 line) ≡ judged d line
 unfolding settled judged
 by-first-bytes d line =
-    by-test (ltb 18 (length line))
-    (λ (e : ltb 18 (length line) ≡ true).
-    let long = ltb-true 18 (length line) e in
-    rw (overlong d line long, overlong d (take 19 line) (omega (arith, length-take 19 line))))
-    (λ (e : ltb 18 (length line) ≡ false). rw (take_all 19 line (omega (arith, ltb-false 18 (length line) e))))
+    ⊎_elim
+    (λ (long : 18 < length line). rw (overlong d line long, overlong d (take 19 line) (omega (arith, length-take 19 line))))
+    (λ few. rw (take_all 19 line (omega (arith, few))))
+    (cases_lt 18 (length line))
 
 -- ---- what is held plays no part in judging
 
@@ -58,10 +60,7 @@ keeping_all r line = foldl keeping r line
 
 cleared-keeping : (r : Reader) (b : ℕ) → cleared (keeping r b) ≡ cleared r
 unfolding keeping
-cleared-keeping r b =
-    by-test (ltb r.count 19)
-    (λ (e : ltb r.count 19 ≡ true). rw e)
-    (λ (e : ltb r.count 19 ≡ false). rw e)
+cleared-keeping r b = grind arith
 
 cleared-keeping-all : (r : Reader) (line : List ℕ) → cleared (keeping_all r line) ≡ cleared r
 cleared-keeping-all r [] = refl
@@ -80,10 +79,7 @@ record Room (r : Reader) : Type 0 where
 
 keeping-room : (r : Reader) (b : ℕ) → Room r → Room (keeping r b)
 unfolding keeping
-keeping-room r b k =
-    by-test (ltb r.count 19)
-    (λ (e : ltb r.count 19 ≡ true). rw e (record { long = length-set r.held r.count b ∙ k.long; most = omega (arith, ltb-true r.count 19 e) }))
-    (λ (e : ltb r.count 19 ≡ false). rw e k)
+keeping-room r b k = record { long = grind (arith, length-set r.held r.count b); most = grind (arith, nat_tests) }
 
 -- one byte more is held, or 19 are
 keeping-holds : (r : Reader) (b : ℕ) (line : List ℕ) → Room r → take 19 (line_held (keeping r b) ++ line) ≡ take 19 (line_held r ++ (b ∷ line))
@@ -136,19 +132,18 @@ holding-stopped d line h = rw h
 
 holding-none : (d : Desk) → holding d [] ≡ d
 unfolding holding
-holding-none d = by-test (stopped d.reader) (λ (e : stopped d.reader ≡ true). rw e) (λ (e : stopped d.reader ≡ false). rw e)
+holding-none d = grind arith
 
 -- a judged line leaves the reader between lines
 judged-between : (d : Desk) (line : List ℕ) → Between d → Between (judged d line)
 unfolding opened told closed refused_with after
-judged-between d line between = by (outcome d line)
-  where
-    by : Outcome d line → Between (judged d line)
-    by (stays e to) = rw to between
-    by (refuses e k to) = rw to
-    by (opens e o to) = rw to
-    by (tells e t to) = rw to
-    by (closes e c to) = rw to
+judged-between d line between = elim (outcome d line) [
+  | stays e to ↦ rw to between
+  | refuses e k to ↦ rw to
+  | opens e o to ↦ rw to
+  | tells e t to ↦ rw to
+  | closes e c to ↦ rw to
+]
 
 nothing-held : (d : Desk) → Between d → line_held d.reader ≡ []
 nothing-held d between = ap line_held between

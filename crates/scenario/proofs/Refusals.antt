@@ -2,16 +2,15 @@
 -- none exactly when none holds.
 use mathlib.Core.Path.{◌≡◌, refl}
 use mathlib.Core.Logic.{◌≢◌, ◌↔◌}
-use mathlib.Core.Bool.{Bool, true, false, and-not_self}
+use mathlib.Core.Bool.{Bool, true, and-not_self}
 use mathlib.Core.List.{List}
 use Prim.Native.Nat.{ℕ, ◌≤◌}
+use native.Mathlib.Omega.{arith}
 use lib.Dec.{eqb, leb}
 use Rattle.rules.specs.Lists.{all}
 use Rattle.rules.specs.Refusals.{Reason, settings_reasons}
-use Rattle.rules.proofs.Counting.{by-test}
 use Rattle.rules.proofs.Refused.{FirstApplies, NoneApplies, numbered, numbers, first-is, first-none, first-most}
 use Rattle.scenario.specs.Hex.{frame_of}
-use Rattle.scenario.specs.Frames.{kind_of}
 use Rattle.scenario.specs.Reasons.{Desk, lent_reasons, open_reasons, tell_reasons, close_reasons, kind_reasons, line_reasons, line_refusal}
 use Rattle.scenario.specs.File.{end_reasons, end_refusal}
 use Rattle.scenario.specs.declared.Reader.{Reader}
@@ -22,11 +21,7 @@ use Rattle.scenario.specs.declared.Reader.{Reader}
 each-kind : (P : List Reason → Bool) (d : Desk) (frame : List ℕ) → P (open_reasons d frame) ≡ true → P (tell_reasons d frame) ≡ true → P (close_reasons d frame) ≡ true
     → P (kind_reasons d frame) ≡ true
 unfolding kind_reasons
-each-kind P d frame opens tells closes =
-    by-test (eqb (kind_of frame) 1)
-    (λ (e : eqb (kind_of frame) 1 ≡ true). rw e opens)
-    (λ (e : eqb (kind_of frame) 1 ≡ false).
-    by-test (eqb (kind_of frame) 2) (λ (f : eqb (kind_of frame) 2 ≡ true). rw (e, f) tells) (λ (f : eqb (kind_of frame) 2 ≡ false). rw (e, f) closes))
+each-kind P d frame opens tells closes = grind arith
 
 line-numbered : (d : Desk) (line : List ℕ) → numbered (line_reasons d line) ≡ true
 unfolding line_reasons numbered open_reasons tell_reasons close_reasons lent_reasons settings_reasons

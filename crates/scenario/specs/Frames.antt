@@ -1,7 +1,9 @@
 -- What the frames of the three kinds hold. A byte that a frame lacks is read as 0; a frame of the wrong length is refused.
-use Rattle.std.specs.Prelude.{ℕ, ◌+◌, ◌*◌, List, [], ◌∷◌, get_or}
+use Rattle.std.specs.Prelude.{ℕ, ◌+◌, ◌*◌, List, [], ◌∷◌, cond, get_or, eqb}
 use Rattle.rules.specs.declared.Settings.{Settings}
 use Rattle.rules.specs.declared.Route.{Route}
+use Rattle.scenario.specs.declared.Line.{Line}
+use Rattle.scenario.specs.declared.Line.TheVariants.{Opening, Telling, Closing}
 
 abbrev pub byte_in : List ℕ → ℕ → ℕ
 byte_in frame i = get_or frame i 0
@@ -38,3 +40,8 @@ word_told frame = word_in frame (2 + byte_in frame 1)
 -- `03`: a word, the number of `02` lines
 unfoldable pub count_in : List ℕ → ℕ
 count_in frame = word_in frame 1
+
+-- What a frame says. A frame of another kind is read as an `03` line; such a kind is refused.
+unfoldable pub line_in : List ℕ → Line
+line_in frame =
+    cond (eqb (kind_of frame) 1) (Opening (settings_in frame)) (cond (eqb (kind_of frame) 2) (Telling (route_in frame) (word_told frame)) (Closing (count_in frame)))

@@ -9,6 +9,8 @@ use Rattle.scenario.specs.Hex.{is_digit, frame_of}
 use Rattle.scenario.specs.Frames.{byte_in, kind_of, settings_in, route_in, count_in}
 use Rattle.scenario.specs.Marks.{marked}
 use Rattle.scenario.specs.declared.Reader.{Reader}
+use Rattle.scenario.specs.declared.Stage.{Stage}
+use Rattle.scenario.specs.declared.Stage.TheVariants.{Before, Opened, Closed}
 
 -- a reader with what was lent to it
 pub record Desk : Type 0 where
@@ -22,6 +24,12 @@ desk r table marks = record { reader = r; table = table; marks = marks }
 -- The reader passes through the host's hands. One with settings that would be refused, or at no known stage, has met no `01` line.
 unfoldable pub stage_of : Reader → ℕ
 stage_of r = cond (eqb (settings_refusal r.settings) 0 && ltb r.stage 3) r.stage 0
+
+-- the number by which a reader holds each stage
+abbrev pub stage_number : Stage → ℕ
+stage_number Before = 0
+stage_number Opened = 1
+stage_number Closed = 2
 
 -- a line was refused: nothing that follows is looked at
 abbrev pub stopped : Reader → Bool

@@ -1,12 +1,14 @@
 // Scenario files: bytes are fed to a reader that passes by value, over a lent table and lent marks.
 #![tactic(auto)]
 
-use rules::Settings;
+use rules::{Route, Settings};
 
 // A file read so far.
-#[derive(Clone, Copy)]
+// Kept: stage, refusal and count are bytes and the line an array: `feed` and `finish` take a reader of any bytes, what is answered to a
+// forged one is stated (`LineTable: stage-forged`), and nothing is allocated.
+#[derive(Clone, Copy, Default)]
 pub struct Reader {
-    // 0 before the `01` line, 1 after it, 2 after the `03` line
+    // the number of a `Stage`
     pub stage: u8,
     // what the `01` line gave
     pub settings: Settings,
@@ -19,4 +21,26 @@ pub struct Reader {
     // the line begun: its first bytes, and how many of them there are
     pub held: [u8; 19],
     pub count: u8,
+}
+
+// What a line says, once it is known to be a frame of its kind.
+#[derive(Clone, Copy)]
+pub enum Line {
+    // `01`
+    Opening(Settings),
+    // `02`
+    Telling { route: Route, word: u16 },
+    // `03`: how many `02` lines there were
+    Closing(u16),
+}
+
+// How far a file has come.
+#[derive(Clone, Copy, PartialEq, Eq, Debug)]
+pub enum Stage {
+    // no `01` line yet
+    Before = 0,
+    // behind the `01` line
+    Opened = 1,
+    // behind the `03` line
+    Closed = 2,
 }

@@ -1,4 +1,3 @@
 pub mod Refusing
 pub mod Depths
-pub mod Narrowing
 pub mod Unique

@@ -3,6 +3,7 @@ use Prim.Native.Nat.{ℕ, ◌+◌, ◌*◌, ◌/◌, ◌^◌, ◌<◌, ◌≤◌
 use mathlib.Core.Path.{◌≡◌, sym, ◌∙◌}
 use mathlib.Core.List.{List, [], ◌∷◌}
 use mathlib.Core.Bool.{Bool, true, false}
+use mathlib.Core.Logic.{◌⊎◌, inl, inr}
 use borrow.Author.Tests.{lt-ltb, le-ltb, le-leb, lt-leb, eq-eqb, ne_eqb}
 use Rattle.rules.specs.Words.{reserved}
 use Rattle.rules.specs.Refusals.{Reason, because, first, wrong_nodes, wrong_rounds, low_bound, too_few, no_sender, reserved_value, stray_fault, settings_reasons, settings_refusal}
@@ -48,6 +49,9 @@ module _ (s : Settings) where
   unfolding settings_reasons wrong_nodes
   many-nodes l h = here 1 (wrong_nodes s.n) (from2 s) (rw (le-ltb s.n 4 l, lt-ltb 15 s.n h))
 
+  pub wrong-nodes : (s.n < 4) ⊎ ((4 ≤ s.n) × (15 < s.n)) → 1 ≡ settings_refusal s
+  wrong-nodes h = elim h [ inl few ↦ few-nodes few | inr many ↦ many-nodes many.0 many.1 ]
+
   module _ (four : 4 ≤ s.n) (fifteen : s.n ≤ 15) where
     at2 : settings_refusal s ≡ first (from2 s)
     unfolding settings_reasons wrong_nodes
@@ -60,6 +64,9 @@ module _ (s : Settings) where
     pub many-rounds : (s.m ≡ 0 → ⊥) → 3 < s.m → 2 ≡ settings_refusal s
     unfolding wrong_rounds
     many-rounds z h = here 2 (wrong_rounds s.m) (from3 s) (rw (ne_eqb s.m 0 z, lt-ltb 3 s.m h)) ∙ sym at2
+
+    pub wrong-rounds : (s.m ≡ 0) ⊎ ((s.m ≡ 0 → ⊥) × (3 < s.m)) → 2 ≡ settings_refusal s
+    wrong-rounds h = elim h [ inl none ↦ no-rounds none | inr many ↦ many-rounds many.0 many.1 ]
 
     module _ (some : s.m ≡ 0 → ⊥) (three : s.m ≤ 3) where
       at3 : settings_refusal s ≡ first (from3 s)
@@ -106,6 +113,6 @@ module _ (s : Settings) where
               unfolding stray_fault
               stray-fault h = here 7 (stray_fault s.n s.faults) [] (rw (ne_eqb (s.faults / 2 ^ s.n) 0 h)) ∙ sym at7
 
-              pub settings-pass : s.faults / 2 ^ s.n ≡ 0 → 0 ≡ settings_refusal s
+              pub settings-pass : s.faults / 2 ^ s.n ≡ 0 → settings_refusal s ≡ 0
               unfolding first stray_fault
-              settings-pass h = sym (at7 ∙ past 7 (stray_fault s.n s.faults) [] (rw (eq-eqb (s.faults / 2 ^ s.n) 0 h)))
+              settings-pass h = at7 ∙ past 7 (stray_fault s.n s.faults) [] (rw (eq-eqb (s.faults / 2 ^ s.n) 0 h))

@@ -4,12 +4,13 @@
 
 ghost use Rattle.std.specs.Prelude.{◌≡◌, ◌+◌};
 ghost use Rattle.rules.specs.Cells.{cells};
+ghost use Rattle.rules.specs.Numbers.{RefusedOr};
 ghost use Rattle.rules.specs.Refusals.{first, layout_reasons, settings_refusal};
 ghost use Rattle.routes.specs.Needs.{Depth};
-ghost use Rattle.settings.specs.Judged.{settings_of};
+ghost use Rattle.settings.specs.Judged.{settings_of, LaidOut};
 
 use routes::cells_before;
-use rules::Settings;
+use rules::{Refusal, Settings};
 
 // Settings that were judged: each number fits a byte and the whole a register, which is how they travel through an exchange.
 #[derive(Clone, Copy)]
@@ -22,80 +23,83 @@ pub struct Judged {
     pub faults: u16,
 }
 
-// 1 to 7, the lowest that applies, or 0. 2m+u is computed wider than the numbers come.
-pub fn settings_refusal(s: Settings) -> u32
-    ensures { result ≡ settings_refusal s }
-{
-    let n = s.n;
-    let m = s.m;
-    let u = s.u;
-    if n < 4 {
-        return 1;
+// The refusal is the lowest of 1 to 7 that applies. 2m+u is computed wider than the numbers come. What was judged is small, so nothing is
+// cut off.
+impl TryFrom<Settings> for Judged {
+    type Error = Refusal;
+
+    ghost try_from_gives = { λ s r. RefusedOr (settings_refusal s) (λ j. settings_of j ≡ s) r };
+
+    fn try_from(s: Settings) -> Result<Judged, Refusal> {
+        let Settings { n, m, u, .. } = s;
+        if n < 4 || n > 15 {
+            return Err(Refusal::WrongNodes);
+        }
+        if m == 0 || m > 3 {
+            return Err(Refusal::WrongRounds);
+        }
+        if u < m {
+            return Err(Refusal::LowBound);
+        }
+        if u64::from(n) <= 2 * u64::from(m) + u64::from(u) {
+            return Err(Refusal::TooFew);
+        }
+        if n <= s.sender {
+            return Err(Refusal::NoSender);
+        }
+        if s.value > 65000 {
+            return Err(Refusal::ReservedValue);
+        }
+        if s.faults >> n != 0 {
+            return Err(Refusal::StrayFault);
+        }
+        Ok(Judged {
+            n: n as u8,
+            m: m as u8,
+            u: u as u8,
+            sender: s.sender as u8,
+            value: s.value,
+            faults: s.faults,
+        })
     }
-    if n > 15 {
-        return 1;
-    }
-    if m == 0 {
-        return 2;
-    }
-    if m > 3 {
-        return 2;
-    }
-    if u < m {
-        return 3;
-    }
-    if n as u64 <= 2 * (m as u64) + u as u64 {
-        return 4;
-    }
-    if n <= s.sender {
-        return 5;
-    }
-    if s.value > 65000 {
-        return 6;
-    }
-    if s.faults >> n != 0 {
-        return 7;
-    }
-    0
 }
 
-// 1, 2 or 4, the lowest that applies, or 0: nodes and rounds where no u is taken.
-#[tactic(auto, unfolding(rules::specs::Refusals::first, rules::specs::Refusals::layout_reasons, rules::specs::Refusals::wrong_nodes, rules::specs::Refusals::wrong_rounds, rules::specs::Refusals::too_few_alone))]
-pub fn layout_refusal(n: u32, m: u32) -> u32
-    ensures { result ≡ first (layout_reasons n m) }
-{
-    if n < 4 || n > 15 {
-        return 1;
+// Nodes and rounds that were judged where no u is taken.
+#[derive(Clone, Copy)]
+pub struct Layout {
+    pub n: u8,
+    pub m: u8,
+}
+
+impl Layout {
+    // The refusal is the lowest of 1, 2 and 4 that applies.
+    // Kept: the first two tests stand above too. One function for both would hide in which list of refusals each of them stands.
+    #[tactic(auto, unfolding(rules::specs::Refusals::first, rules::specs::Refusals::layout_reasons, rules::specs::Refusals::wrong_nodes, rules::specs::Refusals::wrong_rounds, rules::specs::Refusals::too_few_alone))]
+    pub fn judged(nodes: u32, rounds: u32) -> Result<Layout, Refusal>
+        ensures { RefusedOr (first (layout_reasons nodes rounds)) (λ l. LaidOut nodes rounds l) result }
+    {
+        if nodes < 4 || nodes > 15 {
+            return Err(Refusal::WrongNodes);
+        }
+        if rounds == 0 || rounds > 3 {
+            return Err(Refusal::WrongRounds);
+        }
+        if nodes <= 3 * rounds {
+            return Err(Refusal::TooFew);
+        }
+        Ok(Layout {
+            n: nodes as u8,
+            m: rounds as u8,
+        })
     }
-    if m == 0 || m > 3 {
-        return 2;
-    }
-    if n <= 3 * m {
-        return 4;
-    }
-    0
 }
 
 // M, the messages of an exchange among n nodes: one for each cell of rounds 0 to m.
+// Kept: over two numbers, since an exchange, a question about routes and a file hold them in settings of three types.
 #[tactic(auto, unfolding(rules::specs::Cells::cells))]
 pub fn message_count(n: u32, m: u32) -> usize
     requires { Depth n (m + 1) }
     ensures { result ≡ cells n m }
 {
     cells_before(n as usize, m as usize + 1)
-}
-
-// The settings in bytes. Judged numbers are small, so nothing is cut off.
-pub fn narrowed(s: Settings) -> Judged
-    requires { settings_refusal s ≡ 0 }
-    ensures { settings_of result ≡ s }
-{
-    Judged {
-        n: s.n as u8,
-        m: s.m as u8,
-        u: s.u as u8,
-        sender: s.sender as u8,
-        value: s.value,
-        faults: s.faults,
-    }
 }

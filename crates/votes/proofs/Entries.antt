@@ -14,7 +14,7 @@ use Rattle.rules.specs.Words.{word_at, plain, words_of}
 use Rattle.votes.specs.Needs.{Candidate}
 use Rattle.rules.proofs.Counting.{complement, map-up_to, count-append}
 use Rattle.rules.proofs.Ordinary.{plain-ordinary}
-use Rattle.rules.proofs.WordRows.{plain-reserved, plain-same, words_count}
+use Rattle.rules.proofs.WordRows.{words_count}
 
 abbrev pub entry : List ℕ → ℕ → ℕ
 entry bytes i = plain (word_at bytes i)
@@ -72,48 +72,18 @@ entries-rest P bytes i h =
 pub candidate-plain : (bytes : List ℕ) (place word spare : ℕ) → Candidate bytes place word spare → word ≤ 65000
 candidate-plain bytes place word spare c = omega (arith, c.stands, plain-ordinary (word_at bytes place))
 
--- ---- one entry compared with a word that is not reserved
+-- ---- counting the entries that equal a word: one that does is counted, another is not, and so to the end of the list
+module _ (bytes : List ℕ) (word i : ℕ) where
+  pub hit : entry bytes i ≡ word → count (eqb word) (firsts bytes (i + 1)) ≡ count (eqb word) (firsts bytes i) + 1
+  hit e = rw (eq-eqb word (entry bytes i) (sym e)) at (count_next (eqb word) bytes i)
 
-module _ (word w stands : ℕ) (small : word ≤ 65000) (read : w ≡ stands) where
-  -- as it stands
-  pub same-entry : w ≡ word → true ≡ eqb word (plain stands)
-  same-entry e = sym (eq-eqb word (plain stands) (sym e ∙ read ∙ sym (plain-same stands (omega arith))))
+  pub miss : (entry bytes i ≡ word → ⊥) → count (eqb word) (firsts bytes (i + 1)) ≡ count (eqb word) (firsts bytes i)
+  miss n = omega (arith, rw (ne_eqb word (entry bytes i) (λ e. n (sym e))) at (count_next (eqb word) bytes i))
 
-  -- a reserved one counts as the default
-  pub reserved-entry : 65000 < w → eqb word 0 ≡ eqb word (plain stands)
-  reserved-entry h = rw (plain-reserved stands (omega arith))
+pub all-counted : (P : ℕ → Bool) (bytes : List ℕ) (i : ℕ) → i ≡ length bytes / 2 → count P (firsts bytes i) ≡ count P (words_of bytes)
+all-counted P bytes i e = ap (count P) (all_firsts bytes i e)
 
-  -- another counts as it stands
-  pub other-entry : (w ≡ word → ⊥) → w ≤ 65000 → false ≡ eqb word (plain stands)
-  other-entry n h = sym (ne_eqb word (plain stands) (λ e. n (read ∙ sym (e ∙ plain-same stands (omega arith)))))
-
--- an entry that equals a word is counted, another is not
-module _ (bytes : List ℕ) (word i w : ℕ) (read : w ≡ entry bytes i) where
-  pub hit : w ≡ word → count (eqb word) (firsts bytes (i + 1)) ≡ count (eqb word) (firsts bytes i) + 1
-  hit e = rw (← read, eq-eqb word w (sym e)) at (count_next (eqb word) bytes i)
-
-  pub miss : (w ≡ word → ⊥) → count (eqb word) (firsts bytes (i + 1)) ≡ count (eqb word) (firsts bytes i) + 0
-  miss n = rw (← read, ne_eqb word w (λ e. n (sym e))) at (count_next (eqb word) bytes i)
-
--- ---- counting the entries that equal a word
-
-pub record Counted (bytes : List ℕ) (word equal i : ℕ) : Type 0 where
-  pub passed : i ≤ length bytes / 2
-  pub count-is : equal ≡ count (eqb word) (firsts bytes i)
-  pub few : equal ≤ i
-
-pub counted_none : (bytes : List ℕ) (word : ℕ) → Counted bytes word 0 0
-counted_none bytes word = record { passed = omega arith; count-is = sym (count_none (eqb word) bytes); few = omega arith }
-
-module _ (bytes : List ℕ) (word equal i w equal' : ℕ) (so_far : Counted bytes word equal i) (more : i < length bytes / 2) (read : w ≡ entry bytes i) where
-  pub counted-hit : w ≡ word → equal' ≡ equal + 1 → Counted bytes word equal' (i + 1)
-  counted-hit e e' = record { passed = omega arith; count-is = omega (arith, so_far.count-is, hit bytes word i w read e); few = omega (arith, so_far.few) }
-
-  pub counted-miss : (w ≡ word → ⊥) → equal' ≡ equal → Counted bytes word equal' (i + 1)
-  counted-miss n e' = record { passed = omega arith; count-is = omega (arith, so_far.count-is, miss bytes word i w read n); few = omega (arith, so_far.few) }
-
-pub counted-all : (bytes : List ℕ) (word equal i : ℕ) → Counted bytes word equal i → length bytes / 2 ≤ i → equal ≡ count (eqb word) (words_of bytes)
-counted-all bytes word equal i so_far h = so_far.count-is ∙ ap (count (eqb word)) (all_firsts bytes i (omega (arith, so_far.passed)))
+pub ruleset counting = (count_none, hit, miss, all-counted)
 
 -- ---- counting those that do not equal the entry in a place, up to a spare; those before the place among them
 
@@ -125,7 +95,7 @@ pub record Missed (bytes : List ℕ) (place word spare missed i : ℕ) : Type 0 
 -- the entry itself equals the word
 pub missed-before : (bytes : List ℕ) (place word spare : ℕ) → Candidate bytes place word spare → Missed bytes place word spare place (place + 1)
 missed-before bytes place word spare c =
-    record { passed = omega (arith, c.inside); both = omega (arith, hit bytes word place word c.stands refl); spared = c.early }
+    record { passed = omega (arith, c.inside); both = omega (arith, hit bytes word place (sym c.stands)); spared = c.early }
 
 module _ (bytes : List ℕ) (place word spare missed i : ℕ) (c : Candidate bytes place word spare) (so_far : Missed bytes place word spare missed i) where
   -- the word's count from the place on

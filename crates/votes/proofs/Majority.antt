@@ -61,17 +61,17 @@ module _ (q : ℕ) (bytes : List ℕ) (spare : ℕ) (half : AboveHalf q (words_o
           none = λ v r. count_next (eqb v) bytes i ∙ rw (← read, differs v r) (omega (arith, so_far.none v r));
         }
 
-  -- where none of the first entries does, none does
-  pub unled-all : (i : ℕ) → Unled q bytes spare i → spare < i → ◌≡◌ {A = Outcome} (record { word = 0; tie = false }) (vote q (words_of bytes))
-  unled-all i so_far h = sym (vote-none q (words_of bytes) few)
-    where
-      few : (v : ℕ) → count (eqb v) (words_of bytes) < q
-      few v = by-test (leb q (count (eqb v) (words_of bytes)))
-          (λ (t : leb q (count (eqb v) (words_of bytes)) ≡ true).
-          let r = leb-true q (count (eqb v) (words_of bytes)) t in
-          let rest = entries-rest (eqb v) bytes i (omega (arith, so_far.passed, half.rest, half.most, words_count bytes)) in
-          absurd (omega (arith, rest, so_far.none v r, half.rest, words_count bytes)))
-          (λ (t : leb q (count (eqb v) (words_of bytes)) ≡ false). leb-false q (count (eqb v) (words_of bytes)) t)
+    -- and where that was the last that may stand first, none does
+    pub unled-all : b ≡ false → spare ≤ i → ◌≡◌ {A = Outcome} (record { word = 0; tie = false }) (vote q (words_of bytes))
+    unled-all e last = sym (vote-none q (words_of bytes) few)
+      where
+        few : (v : ℕ) → count (eqb v) (words_of bytes) < q
+        few v = by-test (leb q (count (eqb v) (words_of bytes)))
+            (λ (t : leb q (count (eqb v) (words_of bytes)) ≡ true).
+            let r = leb-true q (count (eqb v) (words_of bytes)) t in
+            let rest = entries-rest (eqb v) bytes (i + 1) (omega (arith, in_list i early)) in
+            absurd (omega (arith, rest, (unled-next e).none v r, half.rest, words_count bytes)))
+            (λ (t : leb q (count (eqb v) (words_of bytes)) ≡ false). leb-false q (count (eqb v) (words_of bytes)) t)
 
 -- ---- which way the vote goes
 

@@ -1,15 +1,16 @@
 -- What the functions of this crate ask of their callers.
-use Rattle.std.specs.Prelude.{ℕ, ◌+◌, ◌*◌, ◌≤◌, ◌<◌, ◌≡◌, List, length}
+use Rattle.std.specs.Prelude.{ℕ, ◌+◌, ◌≤◌, ◌<◌, ◌≡◌, List, length}
 use Rattle.rules.specs.Words.{word_at, plain}
+use Rattle.words.specs.Places.{Holds}
 
 -- an entry, and a word that is not reserved
 pub record Comparable (list : List ℕ) (place word : ℕ) : Type 0 where
-  pub inside : 2 * place + 1 < length list
+  pub inside : Holds list place
   pub ordinary : word ≤ 65000
 
 -- the entry in a place, which no more entries than the spare ones stand before
 pub record Candidate (list : List ℕ) (place word spare : ℕ) : Type 0 where
-  pub inside : 2 * place + 1 < length list
+  pub inside : Holds list place
   pub stands : word ≡ plain (word_at list place)
   pub early : place ≤ spare
 

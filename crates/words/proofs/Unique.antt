@@ -4,33 +4,18 @@ use contract.Lifetimes.{Lfts}
 use denote.Triple.Clauses.{AtExit}
 use borrow.Fn.Kinds.{Dens, res_t, ended_of}
 use Rattle.rules.proofs.Results.{OneResult}
-use Rattle.words.proofs.wide.Reads as wide
-use Rattle.words.proofs.wide.Kinds as wide-kinds
 use Rattle.words.proofs.word_at.Reads as word_at
 use Rattle.words.proofs.word_at.Kinds as word-at-kinds
 use Rattle.words.proofs.plain_at.Reads as plain_at
 use Rattle.words.proofs.plain_at.Kinds as plain-at-kinds
-use Rattle.words.proofs.high_byte.Reads as high_byte
-use Rattle.words.proofs.high_byte.Kinds as high-byte-kinds
-use Rattle.words.proofs.low_byte.Reads as low_byte
-use Rattle.words.proofs.low_byte.Kinds as low-byte-kinds
 use Rattle.words.proofs.put_word.Reads as put_word
 use Rattle.words.proofs.put_word.Kinds as put-word-kinds
-
-pub one-wide : OneResult 0 wide-kinds.ps wide-kinds.r wide.Post
-one-wide κs a x y s t p q = p ∙ sym q
 
 pub one-word-at : OneResult 1 word-at-kinds.ps word-at-kinds.r word_at.Post
 one-word-at κs a x y s t p q = p ∙ sym q
 
 pub one-plain-at : OneResult 1 plain-at-kinds.ps plain-at-kinds.r plain_at.Post
 one-plain-at κs a x y s t p q = p ∙ sym q
-
-pub one-high-byte : OneResult 0 high-byte-kinds.ps high-byte-kinds.r high_byte.Post
-one-high-byte κs a x y s t p q = p ∙ sym q
-
-pub one-low-byte : OneResult 0 low-byte-kinds.ps low-byte-kinds.r low_byte.Post
-one-low-byte κs a x y s t p q = p ∙ sym q
 
 -- nothing is returned; one row is left
 pub one-put-word : (κs : Lfts 1) (a : Dens κs put-word-kinds.ps) (x y : (res_t put-word-kinds.r κs).Denot) (s t : AtExit (ended_of 1 put-word-kinds.ps put-word-kinds.r) κs)

@@ -4,8 +4,8 @@ use Rattle.votes.proofs.above_half.Goals as goal
 pub loop-place-init : goal.loop-place-init
 loop-place-init c = search unled-start
 
-pub plain_at-entry-requires : goal.plain_at-entry-requires
-plain_at-entry-requires c = search in_list
+pub plain_at-word-requires : goal.plain_at-word-requires
+plain_at-word-requires c = search in_list
 
 pub all_but-requires : goal.all_but-requires
 all_but-requires c = search candidate
@@ -16,5 +16,5 @@ returns-then-all_but c = search led
 pub loop-place-preserved : goal.loop-place-preserved
 loop-place-preserved c = search unled-next
 
-pub returns : goal.returns
-returns c = search unled-all
+pub returns-else-all_but : goal.returns-else-all_but
+returns-else-all_but c = search unled-all

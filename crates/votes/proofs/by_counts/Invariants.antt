@@ -1,10 +1,6 @@
 -- After i turns it keeps the one value, if any, that reaches the threshold and stands among the first i entries.
-use Rattle.std.proofs.Common.{◌-◌}
 use Rattle.votes.proofs.Counts.{Scan}
 use Rattle.votes.proofs.by_counts.Given as goal
 
 abbrev pub invariant-loop-i : goal.invariant-loop-i
-invariant-loop-i l = Scan l.threshold l.list l.seen l.word l.i
-
-abbrev pub decreases-loop-i : goal.decreases-loop-i
-decreases-loop-i l = l.entries - l.i
+invariant-loop-i l = Scan l.threshold l.list l.kept l.i

@@ -11,7 +11,4 @@ abbrev pub decreases-gather : goal.decreases-gather
 decreases-gather l = l.left + l.left - 1
 
 abbrev pub invariant-gather-loop-j : goal.invariant-gather-loop-j
-invariant-gather-loop-j l = Gathering.Held (settings_of l.s) l.table l.r l.left l.bytes l.count l.ties l.j
-
-abbrev pub decreases-gather-loop-j : goal.decreases-gather-loop-j
-decreases-gather-loop-j l = l.s.n - l.j
+invariant-gather-loop-j l = Gathering.Held (settings_of l.told.settings) l.told.table.now l.path.route l.left l.entries-inside.bytes l.count l.ties l.j

@@ -2,14 +2,14 @@
 use Rattle.exchange.proofs.Slots
 use Rattle.exchange.proofs.row.slot.Goals as goal
 
-pub returns-then-in_mask : goal.returns-then-in_mask
-returns-then-in_mask c = search Slots.slot-faulty
+pub returns-then-faulty : goal.returns-then-faulty
+returns-then-faulty c = Slots.slot-faulty _ _ _ c.if-faulty.ensures
 
-pub returns-then-i-s : goal.returns-then-i-s
-returns-then-i-s c = search Slots.slot-sender
+pub returns-then-i-told : goal.returns-then-i-told
+returns-then-i-told c = Slots.slot-sender _ _ _ c.if-faulty.ensures c.if-i-told.true
 
-pub decide-d-requires : goal.decide-d-requires
-decide-d-requires c = search Slots.slot-ready
+pub decide-requires : goal.decide-requires
+decide-requires c = Slots.slot-ready _ _ _ _ _ c.args.told.now.given.judged c.requires c.if-i-told.false c.from.ensures c.to.ensures.route
 
-pub returns : goal.returns
-returns c = search Slots.slot-decided
+pub returns-else-i-told : goal.returns-else-i-told
+returns-else-i-told c = Slots.slot-decided _ _ _ c.if-faulty.ensures c.if-i-told.false _ _ _ _ c.from.ensures c.to.ensures.route c.decide.ensures

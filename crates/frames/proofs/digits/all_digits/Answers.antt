@@ -1,17 +1,12 @@
-use Rattle.std.proofs.Common.{arith, refl, sym, ◌∙◌}
-use Rattle.rules.specs.Lists.{all}
+-- `frames::digits::all_digits`: the chain asks each byte.
+use Rattle.std.proofs.Common.{rules, ◌≡◌, true}
+use Rattle.std.specs.Prelude.{◌↔◌, EachIndex, IsTrue, slice_index}
 use Rattle.scenario.specs.Hex.{is_digit}
-use Rattle.frames.proofs.Every.{all_more, all-fails}
+use Rattle.frames.proofs.Every.{all_each}
 use Rattle.frames.proofs.digits.all_digits.Goals as goal
 
-pub loop-i-init : goal.loop-i-init
-unfolding all
-loop-i-init c = (omega arith, refl)
-
-pub returns-then-not-is_digit : goal.returns-then-not-is_digit
-returns-then-not-is_digit c =
-    sym (all-fails is_digit c.args.held c.loop-i.i c.args.count (sym c.is_digit.ensures ∙ c.if-not-is_digit.true) (omega arith) (omega arith))
-
-pub loop-i-preserved : goal.loop-i-preserved
-loop-i-preserved c =
-    (omega arith, all_more is_digit c.args.held c.loop-i.i c.loop-i.invariant.1 (sym c.is_digit.ensures ∙ c.if-not-is_digit.false) (omega arith))
+pub returns : goal.returns
+returns c =
+    let line = c.args.line.now in
+    let each : IsTrue c.all.result ↔ EachIndex line (λ k. is_digit (slice_index line k) ≡ true) = search rules in
+    all_each is_digit line c.all.result each

@@ -1,13 +1,16 @@
 -- `reasons::lines::stage_of`: no stage without settings that pass.
-use Rattle.std.proofs.Common.{arith}
-use Rattle.reasons.proofs.LineCascade.{stage-none, stage-unknown, stage-known}
+use Rattle.std.proofs.Common.{arith, ◌∙◌, sym}
+use Rattle.reasons.proofs.LineCascade.{stage-none, stage-known, stage-unknown}
 use Rattle.reasons.proofs.lines.stage_of.Goals as goal
 
-pub returns-then-settings_refusal-ne0 : goal.returns-then-settings_refusal-ne0
-returns-then-settings_refusal-ne0 c = search stage-none
+pub returns-then-is_err : goal.returns-then-is_err
+returns-then-is_err c = stage-none c.args.r _ _ c.try_from.ensures (sym c.is_err.ensures.value ∙ c.if-is_err.true)
 
-pub returns-then-r-ge3 : goal.returns-then-r-ge3
-returns-then-r-ge3 c = search stage-unknown
+pub returns-in-1 : goal.returns-in-1
+returns-in-1 c = stage-known c.args.r _ _ c.try_from.ensures (sym c.is_err.ensures.value ∙ c.if-is_err.false) 1 c.in-1.is (omega arith)
 
-pub returns : goal.returns
-returns c = grind (arith, stage-known)
+pub returns-in-2 : goal.returns-in-2
+returns-in-2 c = stage-known c.args.r _ _ c.try_from.ensures (sym c.is_err.ensures.value ∙ c.if-is_err.false) 2 c.in-2.is (omega arith)
+
+pub returns-in_default : goal.returns-in_default
+returns-in_default c = search stage-unknown

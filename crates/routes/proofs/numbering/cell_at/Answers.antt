@@ -5,7 +5,8 @@ use Rattle.routes.proofs.Digits.{cell-sum, rank-few}
 use Rattle.routes.proofs.numbering.cell_at.Goals as goal
 
 pub overflow_add-result : goal.overflow_add-result
-overflow_add-result c = omega (arith, cells-most _ _ _ c.cells_before.ensures c.requires.few (omega arith), rank-few _ _ _ _ c.requires c.rank_of.ensures)
+overflow_add-result c =
+    omega (arith, cells-most _ _ _ c.cells_before.ensures (omega (arith, c.requires.few)) (omega arith), rank-few _ _ _ _ c.requires c.rank_of.ensures)
 
 pub returns : goal.returns
-returns c = search cell-sum
+returns c = cell-sum _ _ _ _ _ (rw c.from.ensures at c.cells_before.ensures) c.rank_of.ensures

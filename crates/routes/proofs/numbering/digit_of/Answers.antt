@@ -1,16 +1,15 @@
--- `routes::numbering::digit_of`: number by number, at constant places.
-use Rattle.std.proofs.Common.{arith}
+-- `routes::numbering::digit_of`: the sender, and then number by number.
+use Rattle.std.proofs.Common.{rules}
 use Rattle.rules.specs.Routes.{back}
-use Rattle.routes.proofs.Digits.{digit-to}
+use Rattle.routes.proofs.Digits.{digit-first, one_less, digit-next}
 use Rattle.routes.proofs.numbering.digit_of.Goals as goal
 
-pub returns-then-k-eq0 : goal.returns-then-k-eq0
+pub loop-used-init : goal.loop-used-init
 unfolding back
-returns-then-k-eq0 c = rw c.if-k-eq0.true c.first_digit-none.ensures
+loop-used-init c = digit-first _ _ _ _ c.from.ensures c.from-2.ensures
 
-pub next_digit-one-requires : goal.next_digit-one-requires
-unfolding back
-next_digit-one-requires c = digit-to _ _ _ 0 _ _ c.requires (omega arith) c.first_digit-none.ensures
+pub overflow_sub-digits-in-loop-used : goal.overflow_sub-digits-in-loop-used
+overflow_sub-digits-in-loop-used c = one_less _ _ _ _ _ _ _ c.requires (search rules) c.loop-used-test.true c.loop-used.invariant c.from-digits.ensures
 
-pub next_digit-two-requires : goal.next_digit-two-requires
-next_digit-two-requires c = digit-to _ _ _ 1 _ _ c.requires (omega arith) c.next_digit-one.ensures
+pub loop-used-preserved : goal.loop-used-preserved
+loop-used-preserved c = digit-next _ _ _ _ _ _ _ c.requires (search rules) c.loop-used-test.true c.loop-used.invariant c.from-digits.ensures

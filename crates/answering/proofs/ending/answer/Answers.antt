@@ -1,0 +1,12 @@
+-- `answering::ending::answer`: refused, or played.
+use Rattle.answering.proofs.EndOfInput.{says_played, says_refused}
+use Rattle.answering.proofs.ending.answer.Goals as goal
+
+pub played_text-requires : goal.played_text-requires
+played_text-requires c = c.in-Ok.ensures.1
+
+pub returns-in-Ok : goal.returns-in-Ok
+returns-in-Ok c = says_played _ _ _ c.in-Ok.ensures.0 c.played_text.ensures
+
+pub returns-in-Err : goal.returns-in-Err
+returns-in-Err c = says_refused _ _ _ _ c.in-Err.ensures c.refused_text.ensures

@@ -1,4 +1,0 @@
-use Rattle.conversions.proofs.finding.+route_at_place.Given as goal
-
-abbrev pub decreases-route_at_place : goal.decreases-route_at_place
-decreases-route_at_place l = l.len

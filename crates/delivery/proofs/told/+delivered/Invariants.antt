@@ -1,4 +1,0 @@
-use Rattle.delivery.proofs.told.+delivered.Given as goal
-
-abbrev pub decreases-delivered : goal.decreases-delivered
-decreases-delivered l = l.r.len
