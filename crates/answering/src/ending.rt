@@ -38,6 +38,7 @@ impl From<Refusal> for Refused {
 fn end_judged(r: Reader, table: &[u8]) -> Result<(), Refused>
     ensures { Ended r table.now result }
 {
+    // Kept: the refusal is a byte, as `Reader` says.
     if r.refusal != 0 {
         return Err(Refused {
             number: r.refusal,
@@ -64,6 +65,7 @@ fn refused_text(refused: Refused) -> Text
 }
 
 // The answer to a file that was accepted: the exchange on the first 2M bytes of the table, with a row of its own.
+// Kept: settings and table apart, as the reader and its program hold them.
 fn played_text(s: Settings, table: &[u8]) -> Text
     requires { Playable s table.now }
     ensures { result ≡ text_of (played_frames s (table_given s table.now)) }

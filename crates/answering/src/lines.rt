@@ -1,4 +1,5 @@
 // The lines of an answer to an accepted file.
+// Kept: room in the text, and a node below 16, are asked of each function: no type holds a text with a line, or settings with a node.
 ghost use Rattle.std.specs.Prelude.{◌≡◌, ◌++◌, ◌+◌, ◌*◌, ◌<◌, ◌≤◌, length};
 ghost use Rattle.scenario.specs.Answer.{role_of, summary_frame, line_of};
 ghost use Rattle.answering.specs.Finish.{role_number, row_frame, row_text, SummaryFits};

@@ -11,6 +11,8 @@ use std::marker::Model;
 pub const LONGEST: usize = 180;
 
 // A text that is being written: so many first bytes of its room.
+// Kept: an array with its length beside it, since nothing is allocated; `Model` shows the text. That there is room is asked of each function
+// that writes: no type holds a text with the line to come.
 #[derive(Drop)]
 pub struct Text {
     bytes: [u8; LONGEST],

@@ -20,6 +20,7 @@ impl Network {
     ghost use Rattle.conversions.specs.Among.{network_reasons, Among};
 
     // The refusal is the lowest of 1, 2, 4 and 5 that applies.
+    // Kept: n, m and the sender apart, as C gives them.
     pub fn judged(n: u32, m: u32, sender: u32) -> Result<Network, Refusal>
         ensures { RefusedOr (first (network_reasons n m sender)) (λ w. Among n m sender w) result }
     {

@@ -14,6 +14,7 @@ use words::put_word;
 
 // What is gathered for a vote: the entries as it takes them, words in bytes, and the ties met on the way to them. Of 15 nodes there are
 // 14 entries at the most.
+// Kept: an array with its length beside it, since nothing is allocated; `Model` shows the entries that are there.
 #[derive(Drop)]
 struct Entries {
     bytes: [u8; 28],

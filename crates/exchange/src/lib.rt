@@ -33,6 +33,7 @@ fn class_of(f: u32, m: u32, u: u32) -> u32
 
 // One exchange. It refuses and leaves the row as it is, or fills the row and returns the summary. More faults than u are played like
 // any others.
+// Kept: settings and table apart, as they come; `Messages` holds them once they are judged.
 pub fn exchange(s: Settings, table: &[u8], row: &mut [u8]) -> Result<Summary, Refusal>
     ensures answer { RefusedOr (exchange_refusal s (length table.now) (length row.old)) (λ y. y ≡ played s table.now) result }
     ensures row { row.new ≡ row_after s table.now row.old }

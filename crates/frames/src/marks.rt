@@ -24,6 +24,7 @@ pub fn set_mark(marks: &mut [u8], cell: usize)
 }
 
 // Sets every byte to 0.
+// Kept: `fill(0)` under its name and clause.
 pub fn clear(bytes: &mut [u8])
     ensures { bytes.new ≡ replicate (length bytes.old) 0 }
 {

@@ -2,6 +2,7 @@
 // contract is what the function it calls answers, restated whole. C has no `Result`: the number of a refusal stands beside the values,
 // 0 where nothing is refused, and beside a refusal every other field is its default. The crate host_c exports each to C under the
 // same name.
+// Kept: the numbers of a call apart, as C gives them.
 #![tactic(auto)]
 
 ghost use Rattle.std.specs.Prelude.{◌≡◌, [], ◌∷◌, length};

@@ -1,6 +1,7 @@
 // What the package's C host calls: the functions that include/tsegumbar.h declares. Each is the function of the same name in the
 // crate host, under the same contract.
-// Kept: both crates, since this one is built as an archive for C, and such a crate can be no library for others.
+// Kept: both crates, since this one is built as an archive for C, and such a crate can be no library for others; and the numbers of a call
+// apart, as C gives them.
 #![tactic(auto)]
 
 ghost use Rattle.std.specs.Prelude.{◌≡◌, [], ◌∷◌, length};

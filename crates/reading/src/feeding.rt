@@ -8,6 +8,7 @@ use crate::judging::Desk;
 use scenario::Reader;
 
 // The reader before the first byte.
+// Kept: the default under its name and clause.
 #[tactic(auto, unfolding(scenario::specs::File::fresh))]
 pub fn start() -> Reader
     ensures { result ≡ fresh }
@@ -35,6 +36,7 @@ impl Desk<'_> {
     fn take_byte(&mut self, byte: u8)
         ensures { Moved self.old self.new (taken (at self.old) byte) }
     {
+        // Kept: the refusal is a byte, as `Reader` says.
         if self.reader.refusal != 0 {
             return;
         }

@@ -12,7 +12,7 @@ ghost use Rattle.settings.specs.Judged.{settings_of, LaidOut};
 use routes::cells_before;
 use rules::{Refusal, Settings};
 
-// Settings that were judged: each number fits a byte and the whole a register, which is how they travel through an exchange.
+// Settings that were judged: each number fits a byte and the whole a register.
 #[derive(Clone, Copy)]
 pub struct Judged {
     pub n: u8,

@@ -18,8 +18,8 @@ use words::{plain_at, word_at};
 fn count_of(list: &[u8], word: u16) -> usize
     ensures { result ≡ count (eqb word) (words_of list.now) }
 {
-    // Kept: this loop counts several entries at a time. By chunks, `filter` and `count` it takes half as long again, over the range three
-    // times as long.
+    // Kept: this loop counts several entries at a time. By chunks with `filter` and `count` it takes half as long again, by the range with
+    // them three times as long.
     let mut equal = 0;
     for i in 0..list.len() / 2 {
         if plain_at(list, i) == word {

@@ -2,9 +2,6 @@
 use Rattle.answering.proofs.EndOfInput.{says_played, says_refused}
 use Rattle.answering.proofs.ending.answer.Goals as goal
 
-pub played_text-requires : goal.played_text-requires
-played_text-requires c = c.in-Ok.ensures.1
-
 pub returns-in-Ok : goal.returns-in-Ok
 returns-in-Ok c = says_played _ _ _ c.in-Ok.ensures.0 c.played_text.ensures
 
