@@ -20,14 +20,19 @@ use Rattle.scenario.proofs.Hexadecimal.{length_digits}
 
 -- ---- a text in a buffer
 
+module _ (out text : List ℕ) (n : ℕ) (long : length text ≡ n) where
+  -- a text that the buffer cannot hold is not there, and the buffer stays as it was
+  pub too_long : length out < n → (0 ≡ length_after out text) × (out ≡ out_after out text)
+  unfolding length_after out_after holds
+  too_long h = let e = lt-leb (length text) (length out) (omega (arith, long)) in (rw e, rw e)
+
 module _ (out text bytes : List ℕ) (n : ℕ) (is : take n bytes ≡ text) (whole : n ≤ length bytes) where
   long : length text ≡ n
   long = rw (← is) (length-take-le n bytes whole)
 
-  -- a text that the buffer cannot hold is not there, and the buffer stays as it was
+  -- one that does not fit
   pub no_room : length out < n → (0 ≡ length_after out text) × (out ≡ out_after out text)
-  unfolding length_after out_after holds
-  no_room h = let e = lt-leb (length text) (length out) (omega (arith, long)) in (rw e, rw e)
+  no_room = too_long out text n long
 
   -- one that it holds stands in the first bytes
   pub copied : n ≤ length out → (start : List ℕ) → start ≡ take n bytes → (n ≡ length_after out text) × (start ++ drop n out ≡ out_after out text)
@@ -67,6 +72,11 @@ refusal-text k line = append-nil (line_of (refusal_frame k line))
 pub refusal-long : (k line : ℕ) → length (text_of (refusal_frame k line ∷ [])) ≡ 9
 unfolding refusal_frame bytes_of
 refusal-long k line = ap length (refusal-text k line) ∙ line-long (refusal_frame k line)
+
+-- and a buffer shorter than that stays as it was
+pub refusal_short : (k line : ℕ) (out : List ℕ) → length out < 9
+    → (0 ≡ length_after out (text_of (refusal_frame k line ∷ []))) × (out ≡ out_after out (text_of (refusal_frame k line ∷ [])))
+refusal_short k line out = too_long out _ 9 (refusal-long k line)
 
 -- a word as the two bytes that the code makes of it
 bytes_made : (w : ℕ) → w < 65536 → (pair : List ℕ) → pair ≡ (w / 256 % 256 ∷ w % 256 ∷ []) → get_or pair 0 0 ∷ get_or pair 1 0 ∷ [] ≡ word_bytes w

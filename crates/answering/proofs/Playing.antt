@@ -28,8 +28,8 @@ use Rattle.rules.proofs.Summaries.{ties-fit}
 use Rattle.rules.proofs.DecisionRow.{row_word}
 use Rattle.scenario.specs.File.{table_given}
 use Rattle.scenario.specs.Answer.{node_frame, summary_frame, played_frames, line_of, text_of}
-use Rattle.answering.specs.Finish.{row_frame, row_text, SummaryFits, Playable}
-use Rattle.answering.proofs.AnswerText.{line-long, row-long, text-append}
+use Rattle.answering.specs.Finish.{out_after, length_after, row_frame, row_text, SummaryFits, Playable}
+use Rattle.answering.proofs.AnswerText.{too_long, line-long, row-long, text-append}
 
 -- ---- the parts that are lent to the exchange
 
@@ -110,6 +110,11 @@ module _ (s : Settings) (table : List ℕ) where
   pub played-long : length (text_of (played_frames s table)) ≡ 11 * s.n + 15
   unfolding summary_frame bytes_of
   played-long = rw (played-text, length-append, row-long, line-long)
+
+  -- a buffer shorter than that stays as it was
+  pub answer_short : (out : List ℕ) → length out < 11 * s.n + 15
+      → (0 ≡ length_after out (text_of (played_frames s table))) × (out ≡ out_after out (text_of (played_frames s table)))
+  answer_short out = too_long out _ (11 * s.n + 15) played-long
 
 -- ---- the answer, as it grows
 

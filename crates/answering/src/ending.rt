@@ -80,19 +80,34 @@ fn played_text(s: Settings, table: &[u8]) -> Text
     text
 }
 
-// The answer to what was read.
-fn answer(r: Reader, table: &[u8]) -> Text
-    ensures { result ≡ finished r table.now }
+// The answer to a file that was refused, written into the lent buffer if it fits.
+fn write_refusal(refused: Refused, out: &mut [u8]) -> usize
+    ensures { (result ≡ length_after out.old (text_of (refusal_frame refused.number refused.line ∷ []))) × (out.new ≡ out_after out.old (text_of (refusal_frame refused.number refused.line ∷ []))) }
 {
-    match end_judged(r, table) {
-        Ok(()) => played_text(r.settings, table),
-        Err(refused) => refused_text(refused),
+    if out.len() < 9 {
+        return 0;
     }
+    refused_text(refused).copy_to(out)
+}
+
+// The answer to a file that was accepted, written into the lent buffer if it fits. That is asked before the exchange, which would be
+// played for nothing.
+fn write_played(s: Settings, table: &[u8], out: &mut [u8]) -> usize
+    requires { Playable s table.now }
+    ensures { (result ≡ length_after out.old (text_of (played_frames s (table_given s table.now)))) × (out.new ≡ out_after out.old (text_of (played_frames s (table_given s table.now)))) }
+{
+    if out.len() < 11 * s.n as usize + 15 {
+        return 0;
+    }
+    played_text(s, table).copy_to(out)
 }
 
 // At the end of the input: writes the answer into the lent buffer, if it fits, and returns how long it is.
 pub fn finish(r: Reader, table: &[u8], out: &mut [u8]) -> usize
     ensures { (result ≡ length_after out.old (finished r table.now)) × (out.new ≡ out_after out.old (finished r table.now)) }
 {
-    answer(r, table).copy_to(out)
+    match end_judged(r, table) {
+        Ok(()) => write_played(r.settings, table, out),
+        Err(refused) => write_refusal(refused, out),
+    }
 }
