@@ -28,6 +28,10 @@ or_left a b e = (or_parts a b e).0
 pub or_right : (a b : Bool) → (a || b) ≡ false → b ≡ false
 or_right a b e = (or_parts a b e).1
 
+-- where a test passes only if another does, its bit is no more than the other's
+pub bit_le : (a b : Bool) → (a ≡ true → b ≡ true) → bit a ≤ bit b
+bit_le a b h = grind (arith, h)
+
 -- where a test passes only if one of two does, its bit is no more than theirs together
 pub bit-or : (a b c : Bool) → (a ≡ true → b ≡ false → c ≡ true) → bit a ≤ bit b + bit c
 bit-or a b c h = grind (arith, h)
@@ -66,11 +70,15 @@ count-two-two P P' R S (x ∷ L) h = omega (arith, h x, count-two-two P P' R S L
 pub bit-le-one : (b : Bool) → bit b ≤ 1
 bit-le-one b = grind arith
 
--- two numbers together are met no more often than there are entries
-pub count-two : (a b : ℕ) (L : List ℕ) → a ≢ b → count (eqb a) L + count (eqb b) L ≤ length L
+-- no more than one of two tests passes: together they count no more than the entries
+pub count-two : (P Q : ℕ → Bool) (L : List ℕ) → ((x : ℕ) → P x ≡ true → Q x ≡ false) → count P L + count Q L ≤ length L
 unfolding count
-count-two a b [] ne = omega arith
-count-two a b (x ∷ L) ne = grind (arith, nat_tests, count-two a b L ne)
+count-two P Q [] h = omega arith
+count-two P Q (x ∷ L) h = grind (arith, h x, count-two P Q L h)
+
+-- so two numbers together are met no more often than there are entries
+pub count-both : (a b : ℕ) (L : List ℕ) → a ≢ b → count (eqb a) L + count (eqb b) L ≤ length L
+count-both a b L ne = count-two (eqb a) (eqb b) L (λ x e. grind (arith, nat_tests, e))
 
 -- ---- count, keep and map
 

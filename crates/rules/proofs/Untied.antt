@@ -12,7 +12,7 @@ use Rattle.rules.specs.Vote.{vote}
 use Rattle.rules.specs.Decision.{via, nodes_at, threshold, byz, entries, decision}
 use Rattle.rules.specs.Exchange.{slot, slots, tie_count}
 use Rattle.rules.specs.declared.Settings.{Settings}
-use Rattle.rules.proofs.Counting.{count-two, map-append, total-snoc}
+use Rattle.rules.proofs.Counting.{count-both, map-append, total-snoc}
 use Rattle.rules.proofs.Voting.{Tied, vote-tie}
 use Rattle.rules.proofs.Accepted.{SettingsAccepted}
 use Rattle.rules.proofs.Receivers.{is-receiver, path-next}
@@ -24,7 +24,7 @@ pub vote-untied : (q : ℕ) (xs : List ℕ) → 1 ≤ q → length xs < q + q �
 vote-untied q xs pos short = false_from_ne_true (vote q xs).tie (λ e. clash ((vote-tie q xs pos).0 e))
   where
     clash : Tied q xs → ⊥
-    clash t = omega (arith, short, t.one-reaches, t.other-reaches, count-two t.one t.other xs t.differ)
+    clash t = omega (arith, short, t.one-reaches, t.other-reaches, count-both t.one t.other xs t.differ)
 
 -- a sum of nothing
 total-none : (f : ℕ → ℕ) (R : ℕ → Bool) (L : List ℕ) → ((x : ℕ) → R x ≡ true → f x ≡ 0) → total (map f (keep R L)) ≡ 0

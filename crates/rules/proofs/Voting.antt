@@ -13,7 +13,7 @@ use Rattle.std.proofs.lemmas.Bool.Decides.{nat_tests}
 use Rattle.rules.specs.Lists.{count, keep, all}
 use Rattle.rules.specs.Vote.{reaches, settle, vote}
 use Rattle.rules.specs.declared.Outcome.{Outcome}
-use Rattle.rules.proofs.Counting.{by-test, count-le, count-two, count-keep, complement, keep-none, all_keep, all-le, and_left, and_right, and_both}
+use Rattle.rules.proofs.Counting.{by-test, count-le, count-both, count-keep, complement, keep-none, all_keep, all-le, and_left, and_right, and_both}
 
 -- ---- what is said of a value, and of two
 
@@ -215,7 +215,7 @@ vote-reaches (suc q) xs = go (turnout (suc q) xs (omega arith))
 
 -- where fewer than q + q entries stand, a value that reaches the threshold is what the vote gives
 pub vote-wins : (q : ℕ) (xs : List ℕ) (v : ℕ) → 1 ≤ q → length xs < q + q → Reaches q xs v → (vote q xs).word ≡ v
-vote-wins q xs v pos short r = ap (λ o. o.word) (vote-only q xs v pos (record { reached = r; only = λ w also. grind (arith, count-two w v xs) }))
+vote-wins q xs v pos short r = ap (λ o. o.word) (vote-only q xs v pos (record { reached = r; only = λ w also. grind (arith, count-both w v xs) }))
 
 -- what is so of every entry is so of those that are kept
 all-kept : (P R : ℕ → Bool) (xs : List ℕ) → all P xs ≡ true → all P (keep R xs) ≡ true

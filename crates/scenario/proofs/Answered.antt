@@ -4,15 +4,16 @@ use mathlib.Core.Path.{◌≡◌, refl, sym, ap, ap₂, ◌∙◌}
 use mathlib.Core.Logic.{◌≢◌}
 use mathlib.Core.Bool.{true, false}
 use mathlib.Core.List.{List, [], ◌∷◌, ◌++◌, map, append-nil, append_assoc}
-use Prim.Native.Nat.{ℕ, ◌+◌, ◌/◌, ◌%◌, ◌<◌}
+use Prim.Native.Nat.{ℕ, ◌+◌, ◌*◌, ◌/◌, ◌%◌, ◌≤◌, ◌<◌}
 use native.Mathlib.Omega.{arith}
 use lib.ListN.{length, get_or, length-append, length-map, get_or-append}
-use lib.Seq.{get_or_at}
+use lib.Seq.{get_or_at, get_or-take, length-take-le}
 use lib.Dec.{eqb}
 use borrow.Author.Tests.{eqb-false, ne_eqb, not-true}
 use Rattle.std.proofs.lemmas.List.{get_or-map}
 use Rattle.std.proofs.lemmas.Bool.Decides.{nat_tests}
 use Rattle.rules.specs.Lists.{all, up_to}
+use Rattle.rules.specs.Cells.{cells}
 use Rattle.rules.specs.Exchange.{played}
 use Rattle.rules.specs.Refusals.{first}
 use Rattle.rules.specs.declared.Settings.{Settings}
@@ -52,6 +53,15 @@ module _ (s : Settings) (table : List ℕ) where
   pub played-summary : get_or (played_frames s table) s.n [] ≡ summary_frame (played s table)
   unfolding played_frames nodes
   played-summary = get_or_at nodes (summary_frame (played s table)) [] [] s.n nodes-count
+
+  -- the exchange is handed the first 2M bytes of what was lent
+  pub given-length : 2 * cells s.n s.m ≤ length table → length (table_given s table) ≡ 2 * cells s.n s.m
+  unfolding table_given
+  given-length enough = length-take-le (2 * cells s.n s.m) table enough
+
+  pub given-byte : (i : ℕ) → i < 2 * cells s.n s.m → get_or (table_given s table) i 0 ≡ get_or table i 0
+  unfolding table_given
+  given-byte i h = get_or-take (2 * cells s.n s.m) table i 0 h
 
 -- ---- the frames of an answer
 
