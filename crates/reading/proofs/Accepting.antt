@@ -84,6 +84,10 @@ module _ (d : Desk) (line : List ℕ) (running : d.reader.refusal ≡ 0) where
   unfolding judged settled
   judged-refused e known = rw (goes_on, ← known, ne_eqb (number_of e) 0 (number-some e))
 
+  -- which is what the line does
+  pub refused_judged : (e : Refusal) → number_of e ≡ line_refusal d line → (x : Desk) → x ≡ refused_with d (number_of e) → x ≡ judged d line
+  refused_judged e known x is = is ∙ judged-refused e known
+
   module _ (l : Line) (said : (line_refusal d line ≡ 0) × (l ≡ line_in (frame_of line))) where
     -- an accepted one asks what its kind asks
     pub acceptable : Acceptable d l
@@ -102,3 +106,7 @@ module _ (d : Desk) (line : List ℕ) (running : d.reader.refusal ≡ 0) where
     pub judged-accepted : done d l ≡ judged d line
     unfolding judged settled
     judged-accepted = rw (goes_on, said.0, said.1) (done-accepted d (frame_of line))
+
+    -- which is what the line does
+    pub accepted_judged : (x : Desk) → x ≡ done d l → x ≡ judged d line
+    accepted_judged x is = is ∙ judged-accepted

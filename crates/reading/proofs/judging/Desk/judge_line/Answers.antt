@@ -1,23 +1,14 @@
--- `reading::judging::Desk::judge_line`: refused, or accepted.
-use Rattle.std.proofs.Common.{◌∙◌}
-use Rattle.scenario.specs.Feeding.{line_held}
-use Rattle.reading.specs.Steps.{at}
-use Rattle.reading.proofs.Accepting.{judged-refused, acceptable, judged-accepted}
+-- `reading::judging::Desk::judge_line`: refused, or accepted. The two results are searched for, so that an edit that does something
+-- else in either case is refused at what it does there.
+use Rattle.std.proofs.Common.{rules}
+use Rattle.reading.proofs.Accepting.{refused_judged, acceptable, accepted_judged}
 use Rattle.reading.proofs.judging.Desk.judge_line.Goals as goal
 
 pub returns-in-Err : goal.returns-in-Err
-returns-in-Err c =
-    let d = at c.args.self.now in
-    let moved = c.refuse.ensures in
-    (moved.0 ∙ judged-refused d (line_held d.reader) c.requires c.in-Err.e c.in-Err.ensures, moved.1, moved.2)
+returns-in-Err c = (search (refused_judged, c.in-Err.ensures), search rules, search rules)
 
 pub accept-requires : goal.accept-requires
-accept-requires c =
-    let d = at c.args.self.now in
-    acceptable d (line_held d.reader) c.requires c.in-Ok.line c.in-Ok.ensures
+accept-requires c = acceptable _ _ c.requires _ c.in-Ok.ensures
 
 pub returns-in-Ok : goal.returns-in-Ok
-returns-in-Ok c =
-    let d = at c.args.self.now in
-    let moved = c.accept.ensures in
-    (moved.0 ∙ judged-accepted d (line_held d.reader) c.requires c.in-Ok.line c.in-Ok.ensures, moved.1, moved.2)
+returns-in-Ok c = (search (accepted_judged, c.in-Ok.ensures), search rules, search rules)
