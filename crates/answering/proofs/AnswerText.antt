@@ -30,7 +30,7 @@ module _ (out text bytes : List ℕ) (n : ℕ) (is : take n bytes ≡ text) (who
   long : length text ≡ n
   long = rw (← is) (length-take-le n bytes whole)
 
-  -- one that does not fit
+  -- the same of one that is the first n of some bytes
   pub no_room : length out < n → (0 ≡ length_after out text) × (out ≡ out_after out text)
   no_room = too_long out text n long
 
@@ -74,9 +74,12 @@ unfolding refusal_frame bytes_of
 refusal-long k line = ap length (refusal-text k line) ∙ line-long (refusal_frame k line)
 
 -- and a buffer shorter than that stays as it was
-pub refusal_short : (k line : ℕ) (out : List ℕ) → length out < 9
-    → (0 ≡ length_after out (text_of (refusal_frame k line ∷ []))) × (out ≡ out_after out (text_of (refusal_frame k line ∷ [])))
-refusal_short k line out = too_long out _ 9 (refusal-long k line)
+module _ (k line : ℕ) (out : List ℕ) (short : length out < 9) where
+  pub refusal_none : 0 ≡ length_after out (text_of (refusal_frame k line ∷ []))
+  refusal_none = (too_long out _ 9 (refusal-long k line) short).0
+
+  pub refusal_kept : out ≡ out_after out (text_of (refusal_frame k line ∷ []))
+  refusal_kept = (too_long out _ 9 (refusal-long k line) short).1
 
 -- a word as the two bytes that the code makes of it
 bytes_made : (w : ℕ) → w < 65536 → (pair : List ℕ) → pair ≡ (w / 256 % 256 ∷ w % 256 ∷ []) → get_or pair 0 0 ∷ get_or pair 1 0 ∷ [] ≡ word_bytes w

@@ -81,6 +81,7 @@ fn played_text(s: Settings, table: &[u8]) -> Text
 }
 
 // The answer to a file that was refused, written into the lent buffer if it fits.
+#[tactic(auto, using(crate::proofs::AnswerText::refusal_none, crate::proofs::AnswerText::refusal_kept))]
 fn write_refusal(refused: Refused, out: &mut [u8]) -> usize
     ensures { (result ≡ length_after out.old (text_of (refusal_frame refused.number refused.line ∷ []))) × (out.new ≡ out_after out.old (text_of (refusal_frame refused.number refused.line ∷ []))) }
 {
@@ -90,7 +91,7 @@ fn write_refusal(refused: Refused, out: &mut [u8]) -> usize
     refused_text(refused).copy_to(out)
 }
 
-// The answer to a file that was accepted, written into the lent buffer if it fits. That is asked before the exchange, which would be
+// The answer to a file that was accepted, written into the lent buffer if it fits. That is asked before the exchange, so that none is
 // played for nothing.
 fn write_played(s: Settings, table: &[u8], out: &mut [u8]) -> usize
     requires { Playable s table.now }

@@ -84,7 +84,7 @@ module _ (d : Desk) (line : List ℕ) (running : d.reader.refusal ≡ 0) where
   unfolding judged settled
   judged-refused e known = rw (goes_on, ← known, ne_eqb (number_of e) 0 (number-some e))
 
-  -- which is what the line does
+  -- the same of whatever equals it, as the code finds it
   pub refused_judged : (e : Refusal) → number_of e ≡ line_refusal d line → (x : Desk) → x ≡ refused_with d (number_of e) → x ≡ judged d line
   refused_judged e known x is = is ∙ judged-refused e known
 
@@ -107,6 +107,6 @@ module _ (d : Desk) (line : List ℕ) (running : d.reader.refusal ≡ 0) where
     unfolding judged settled
     judged-accepted = rw (goes_on, said.0, said.1) (done-accepted d (frame_of line))
 
-    -- which is what the line does
+    -- the same of whatever equals it, as the code finds it
     pub accepted_judged : (x : Desk) → x ≡ done d l → x ≡ judged d line
     accepted_judged x is = is ∙ judged-accepted

@@ -76,7 +76,7 @@ unfolding count
 count-two P Q [] h = omega arith
 count-two P Q (x ∷ L) h = grind (arith, h x, count-two P Q L h)
 
--- so two numbers together are met no more often than there are entries
+-- so two different numbers together are met no more often than there are entries
 pub count-both : (a b : ℕ) (L : List ℕ) → a ≢ b → count (eqb a) L + count (eqb b) L ≤ length L
 count-both a b L ne = count-two (eqb a) (eqb b) L (λ x e. grind (arith, nat_tests, e))
 
