@@ -80,7 +80,7 @@ fn played_text(s: Settings, table: &[u8]) -> Text
     text
 }
 
-// The answer to a file that was refused, written into the lent buffer if it fits.
+// The answer to a file that was refused, written into the lent buffer if it fits: it is one line of nine bytes.
 #[tactic(auto, using(crate::proofs::AnswerText::refusal_none, crate::proofs::AnswerText::refusal_kept))]
 fn write_refusal(refused: Refused, out: &mut [u8]) -> usize
     ensures { (result ≡ length_after out.old (text_of (refusal_frame refused.number refused.line ∷ []))) × (out.new ≡ out_after out.old (text_of (refusal_frame refused.number refused.line ∷ []))) }
@@ -91,8 +91,8 @@ fn write_refusal(refused: Refused, out: &mut [u8]) -> usize
     refused_text(refused).copy_to(out)
 }
 
-// The answer to a file that was accepted, written into the lent buffer if it fits. That is asked before the exchange, so that none is
-// played for nothing.
+// The answer to a file that was accepted, written into the lent buffer if it fits: eleven bytes for each node, and fifteen. That is asked
+// before the exchange, so that none is played for nothing.
 fn write_played(s: Settings, table: &[u8], out: &mut [u8]) -> usize
     requires { Playable s table.now }
     ensures { (result ≡ length_after out.old (text_of (played_frames s (table_given s table.now)))) × (out.new ≡ out_after out.old (text_of (played_frames s (table_given s table.now)))) }
